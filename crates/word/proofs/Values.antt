@@ -56,7 +56,7 @@ flipped-low a b x h k =
     let s = one-shl x 64 k in
     let below : bitXor a (2 ^ x) < 2 ^ 64 = xor-lt 64 a (2 ^ x) h (pow-below x 64 k) in
     let t : toggled x (a + 2 ^ 64 * b) ≡ bitXor a (2 ^ x) + 2 ^ 64 * b =
-      cond-true _ _ _ (lt-ltb x 72 (omega arith)) ∙ toggled-low a b x h k in
+    cond-true _ _ _ (lt-ltb x 72 (omega arith)) ∙ toggled-low a b x h k in
     rw s (word-is (bitXor a (2 ^ x)) b (toggled x (a + 2 ^ 64 * b)) below t)
 
 pub flipped-top : (a b x : ℕ) → a < 2 ^ 64 → 64 ≤ x → x < 72 →
@@ -65,7 +65,7 @@ flipped-top a b x h m k =
     let s = one-shl (x - 64) 8 (omega arith) in
     let whole : (x - 64) + 64 ≡ x = omega arith in
     let t : toggled x (a + 2 ^ 64 * b) ≡ a + 2 ^ 64 * bitXor b (2 ^ (x - 64)) =
-      cond-true _ _ _ (lt-ltb x 72 k) ∙ ap (λ y. bitXor (a + 2 ^ 64 * b) (2 ^ y)) (sym whole) ∙ toggled-top a b (x - 64) h in
+    cond-true _ _ _ (lt-ltb x 72 k) ∙ ap (λ y. bitXor (a + 2 ^ 64 * b) (2 ^ y)) (sym whole) ∙ toggled-top a b (x - 64) h in
     rw s (word-is a (bitXor b (2 ^ (x - 64))) (toggled x (a + 2 ^ 64 * b)) h t)
 
 -- a power that holds a word's cells may as well stop at the 72nd
@@ -100,9 +100,9 @@ join-held l h w =
     sum ∙ ⊎-elim
     (λ e. ap (λ m. (l + m) % 2 ^ 72) (ap (λ m. h * 2 ^ m) e ∙ mul-comm h (2 ^ w)))
     (λ e.
-      let whole : (w - 72) + 72 ≡ w = let k : 72 ≤ w = e .1 in omega arith in
-      let q : 2 ^ w ≡ 2 ^ (w - 72) * 2 ^ 72 = ap (λ m. 2 ^ m) (sym whole) ∙ pow-add 2 (w - 72) 72 in
-      let q2 : 2 ^ w * h ≡ (2 ^ (w - 72) * h) * 2 ^ 72 = ap (λ m. m * h) q ∙ mul-right-comm (2 ^ (w - 72)) (2 ^ 72) h in
-      let flat : (l + h * 2 ^ min w 72) % 2 ^ 72 ≡ (l + h * 2 ^ 72) % 2 ^ 72 = ap (λ m. (l + h * 2 ^ m) % 2 ^ 72) (e .0) in
-      flat ∙ omega arith)
+    let whole : (w - 72) + 72 ≡ w = let k : 72 ≤ w = e .1 in omega arith in
+    let q : 2 ^ w ≡ 2 ^ (w - 72) * 2 ^ 72 = ap (λ m. 2 ^ m) (sym whole) ∙ pow-add 2 (w - 72) 72 in
+    let q2 : 2 ^ w * h ≡ (2 ^ (w - 72) * h) * 2 ^ 72 = ap (λ m. m * h) q ∙ mul-right-comm (2 ^ (w - 72)) (2 ^ 72) h in
+    let flat : (l + h * 2 ^ min w 72) % 2 ^ 72 ≡ (l + h * 2 ^ 72) % 2 ^ 72 = ap (λ m. (l + h * 2 ^ m) % 2 ^ 72) (e .0) in
+    flat ∙ omega arith)
     (held w)

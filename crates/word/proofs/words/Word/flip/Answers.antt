@@ -16,6 +16,6 @@ returns-then-cell-lt64 c =
     flipped-low (c .args .self .low) (c .args .self .top) (c .args .cell) l (c .if-cell-lt64 .taken)
 
 pub returns-then-cell-lt72 : need.returns-then-cell-lt72
-returns-then-cell-lt72 c = 
+returns-then-cell-lt72 c =
     let l : c .args .self .low < 2 ^ 64 = omega arith in
     flipped-top (c .args .self .low) (c .args .self .top) (c .args .cell) l (c .if-cell-lt64 .left) (c .if-cell-lt72 .taken)
