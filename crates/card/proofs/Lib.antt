@@ -1,0 +1,2 @@
+pub mod WidthFacts
+pub mod BuiltinLaws
