@@ -1,0 +1,12 @@
+// The unit: check bits over any code and any card, and a log of what its readings met.
+mod decoding;
+mod logs;
+mod records;
+mod units;
+
+pub use logs::Log;
+pub use records::FirstError;
+pub use records::Kind;
+pub use records::RawWord;
+pub use units::Unit;
+pub use units::UnitIsCard;
