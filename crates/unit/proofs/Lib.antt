@@ -1,3 +1,4 @@
 pub mod CodeFacts
 pub mod UnitLaws
 pub mod UnitSteps
+pub mod MergeFacts

@@ -2,7 +2,7 @@
 use mathlib.Core.Path.{_≡_, refl, sym, ap, _∙_, subst}
 use mathlib.Core.Bool.{Bool, true, false, cond}
 use mathlib.Core.Logic.{_≢_, ⊎-elim}
-use Prim.Native.Nat.{ℕ, _+_, _*_, _^_, _<_, _≤_}
+use Prim.Native.Nat.{ℕ, _+_, _*_, _^_, _/_, _<_, _≤_}
 use native.Mathlib.Nat.{lt-of-lt-of-le}
 use native.Mathlib.Omega.{arith}
 use lib.Bits.{bitXor, xor-lt}
@@ -10,8 +10,9 @@ use lib.Dec.{eqb, ltb}
 use lib.Pow.{pow-mono}
 use Rattle.std.specs.declared.result.Result.{Result}
 use Rattle.std.specs.declared.result.Result.the-variants.{Ok, Err}
+use Rattle.std.specs.declared.option.Option.the-variants.{Some, None}
 use Rattle.std.proofs.shelf.Bits.{pow-below}
-use Rattle.std.proofs.shelf.Tests.{cond-true, lt-ltb}
+use Rattle.std.proofs.shelf.Tests.{cond-true, cond-false, lt-ltb, ne-eqb}
 use Rattle.word.specs.Words.{value, of-value, toggled}
 use Rattle.word.specs.declared.words.Word.{Word}
 use Rattle.word.specs.declared.faults.Fault.{Fault}
@@ -19,9 +20,11 @@ use Rattle.word.proofs.Values.{value-of-value}
 use Rattle.code.specs.Codes.{CodeModel, CodeLaws, codeword}
 use Rattle.card.specs.Cards.{CardModel, CardLaws, Entry, holds, faulty, Within, shown, read-answer, read-state, write-answer, write-state}
 use Rattle.unit.specs.Logs.{LogState}
-use Rattle.unit.specs.Units.{UnitState, unit-card, decoded, logged, injecting, injected}
+use Rattle.unit.specs.Units.{UnitState, unit-card, decoded, logged, injecting, injected, merging, kept, merged}
 use Rattle.unit.proofs.CodeFacts.{codeword-below}
-use Rattle.unit.proofs.UnitLaws.{fits-from-place, codeword-fits}
+use Rattle.unit.specs.Merges.{joined}
+use Rattle.unit.proofs.UnitLaws.{fits-from-place, codeword-fits, unit-laws}
+use Rattle.unit.proofs.MergeFacts.{joined-below, joined-short}
 
 shown-ok : (e : Entry) (w : Word) → Ok w ≡ shown e → e ≡ holds (value w)
 shown-ok (holds v) w e = let f : of-value v ≡ w = cc in ap holds (sym (value-of-value v) ∙ ap value f)
@@ -118,3 +121,63 @@ module _ (c : CodeModel) (m : CardModel) (cl : CodeLaws c) (ml : CardLaws m) (s 
         let card : u ≡ m .after-write (m .after-read (s .card) p) p (bitXor (value w) (2 ^ x)) =
         a ∙ write-left m t p same-place (value y) flipped-fits ∙ ap (m .after-write t p) flipped ∙ ap (λ z. m .after-write z p (bitXor (value w) (2 ^ x))) after in
         ap (λ z. record { log = s .log; card = z }) card ∙ sym (ap (λ o. o .state) inject-is)
+
+  -- a merge that keeps a lane, once the word w was read
+  module _ (v e : ℕ) (b : v < 2 ^ c .n) (w : Word) (r : Ok w ≡ read-answer (unit-card c m) s p) (t : UnitState (m .State)) (et : t ≡ read-state (unit-card c m) s p) where
+    laws : CardLaws (unit-card c m)
+    laws = unit-laws c m cl ml
+
+    old-is : unit-card c m .entry s p ≡ holds (value w)
+    old-is = entry-read (unit-card c m) s p h w r
+
+    old-below : value w < 2 ^ c .n
+    old-below = subst (Within (c .n)) old-is (laws .within s p h)
+
+    after-reading : t ≡ unit-card c m .after-read s p
+    after-reading = et ∙ read-left (unit-card c m) s p h
+
+    still-there : p < unit-card c m .count t
+    still-there = subst (λ n. p < n) (sym (ap (unit-card c m .count) after-reading ∙ laws .read-count s p h)) h
+
+    joined-fits : joined (c .n / 8) e (value w) v < 2 ^ c .n
+    joined-fits = subst (λ n. joined (c .n / 8) e (value w) v < 2 ^ n) (sym (cl .whole-lanes)) (joined-below e (value w) v (c .n / 8))
+
+    module _ (x : Word) (ex : x ≡ record { low = joined 8 e (w .low) v; top = 0 }) where
+      joined-is : value x ≡ joined (c .n / 8) e (value w) v
+      joined-is =
+          let wide : value w < 2 ^ 64 = lt-of-lt-of-le old-below (pow-mono (cl .n-most)) in
+          let low : w .low ≡ value w = omega arith in
+          let lanes = cl .whole-lanes in
+          let few : c .n / 8 ≤ 8 = let most = cl .n-most in omega arith in
+          let j = joined 8 e (w .low) v in
+          let flat : j + 2 ^ 64 * 0 ≡ j = omega arith in
+          ap value ex ∙ flat ∙ ap (λ y. joined 8 e y v) low ∙
+          joined-short e (value w) v (c .n / 8) few (subst (λ n. value w < 2 ^ n) lanes old-below) (subst (λ n. v < 2 ^ n) lanes b)
+
+      fits-again : value x < 2 ^ c .n
+      fits-again = rw joined-is joined-fits
+
+      pub merge-granted : write-answer (unit-card c m) t p (value x) ≡ Ok tt
+      merge-granted = write-answered (unit-card c m) t p still-there (value x) fits-again
+
+      pub merge-done : (u : UnitState (m .State)) → u ≡ write-state (unit-card c m) t p (value x) → u ≡ kept c m s p v e .state
+      merge-done u eu =
+          eu ∙ write-left (unit-card c m) t p still-there (value x) fits-again ∙
+          ap (unit-card c m .after-write t p) joined-is ∙
+          ap (λ y. unit-card c m .after-write y p (joined (c .n / 8) e (value w) v)) after-reading ∙
+          sym (ap (λ y. merging c m s p v e y .state) old-is)
+
+    pub merge-sound : Ok (Some w) ≡ kept c m s p v e .answer
+    merge-sound =
+        let same : Ok w ≡ Ok (of-value (value w)) = r ∙ read-answered (unit-card c m) s p h ∙ ap shown old-is in
+        let word : w ≡ of-value (value w) = cc in
+        ap (λ y. Ok (Some y)) word ∙ sym (ap (λ y. merging c m s p v e y .answer) old-is)
+
+  -- a merge whose arguments are granted, and that keeps a lane
+  pub merge-is : (w : Word) (e : ℕ) → value w < 2 ^ c .n → e < 2 ^ (c .n / 8) → (e ≡ 0 → ⊥) → kept c m s p (w .low) e ≡ merged c m s p (value w) e
+  merge-is w e b f k =
+      let wide : value w < 2 ^ 64 = lt-of-lt-of-le b (pow-mono (cl .n-most)) in
+      let low : w .low ≡ value w = omega arith in
+      ap (λ v. kept c m s p v e) low ∙
+      sym (cond-true _ _ _ (lt-ltb p (unit-card c m .count s) h) ∙ cond-true _ _ _ (lt-ltb (value w) (2 ^ c .n) b) ∙
+      cond-true _ _ _ (lt-ltb e (2 ^ (c .n / 8)) f) ∙ cond-false _ _ _ (ne-eqb e 0 k))

@@ -1,3 +1,4 @@
 pub mod Kinds
 pub mod Logs
+pub mod Merges
 pub mod Units

@@ -1,21 +1,25 @@
 -- A unit: the card that it shows, made from its code and the card below. Assumes nothing.
 use mathlib.Core.Bool.{cond}
-use Prim.Native.Nat.{ℕ, _+_, _*_, _^_, _/_, _%_}
+use Prim.Native.Nat.{ℕ, _+_, _-_, _*_, _^_, _/_, _%_}
 use lib.Bits.{bitXor}
 use lib.Dec.{ltb, eqb}
 use Rattle.std.specs.declared.result.Result.{Result}
 use Rattle.std.specs.declared.result.Result.the-variants.{Ok, Err}
-use Rattle.word.specs.Words.{toggled}
+use Rattle.std.specs.declared.option.Option.{Option}
+use Rattle.std.specs.declared.option.Option.the-variants.{Some, None}
+use Rattle.word.specs.Words.{toggled, of-value}
+use Rattle.word.specs.declared.words.Word.{Word}
 use Rattle.word.specs.Faults.{arisen, passed}
 use Rattle.word.specs.declared.faults.Fault.{Fault}
 use Rattle.word.specs.declared.refusals.Refusal.{Refusal}
-use Rattle.word.specs.declared.refusals.Refusal.the-variants.{Place as PLACE, Cell as CELL, Two as TWO, Many as MANY}
+use Rattle.word.specs.declared.refusals.Refusal.the-variants.{Place as PLACE, Wide as WIDE, Enable as ENABLE, Cell as CELL, Two as TWO, Many as MANY}
 use Rattle.code.specs.Codes.{CodeModel, located, codeword, syndrome}
 use Rattle.code.specs.declared.syndromes.Located.{Located}
 use Rattle.code.specs.declared.syndromes.Located.the-variants.{Clean, Data, Check, Two, Many}
 use Rattle.card.specs.Cards.{CardModel, Entry, holds, faulty}
 use Rattle.unit.specs.Kinds.{is-damage}
-use Rattle.unit.specs.Logs.{LogState, log-of, noted}
+use Rattle.unit.specs.Logs.{LogState, log-of, new-log, noted}
+use Rattle.unit.specs.Merges.{joined}
 use Rattle.unit.specs.declared.records.RawWord.{RawWord}
 use Rattle.unit.specs.declared.units.Unit.{Unit as UnitOf}
 
@@ -86,3 +90,34 @@ module _ (c : CodeModel) (m : CardModel) where
       cond (ltb p (unit-card c m .count s))
       (cond (ltb x (c .n + c .k)) (injecting s p x (m .entry (s .card) p)) (refused CELL p s))
       (refused PLACE p s)
+
+  -- with a lane kept, the joined word is stored over the one read, which is given; a refused reading stores nothing
+  abbrev pub merging : UnitState (m .State) → ℕ → ℕ → ℕ → Entry → Outcome (m .State) (Result (Option Word) Fault)
+  merging s p v e (holds old) = record {
+    state = unit-card c m .after-write (unit-card c m .after-read s p) p (joined (c .n / 8) e old v);
+    answer = Ok (Some (of-value old));
+  }
+  merging s p v e (faulty f) = record { state = unit-card c m .after-read s p; answer = Err f }
+
+  abbrev pub kept : UnitState (m .State) → ℕ → ℕ → ℕ → Outcome (m .State) (Result (Option Word) Fault)
+  kept s p v e = merging s p v e (unit-card c m .entry s p)
+
+  -- with no lane kept it is a write, and gives no word
+  abbrev pub writing : UnitState (m .State) → ℕ → ℕ → Outcome (m .State) (Result (Option Word) Fault)
+  writing s p v = record { state = unit-card c m .after-write s p v; answer = Ok None }
+
+  abbrev pub merged : UnitState (m .State) → ℕ → ℕ → ℕ → Outcome (m .State) (Result (Option Word) Fault)
+  merged s p v e =
+      cond (ltb p (unit-card c m .count s))
+      (cond (ltb v (2 ^ c .n))
+      (cond (ltb e (2 ^ (c .n / 8))) (cond (eqb e 0) (writing s p v) (kept s p v e)) (refused ENABLE p s))
+      (refused WIDE p s))
+      (refused PLACE p s)
+
+  -- the enables that keep every lane
+  abbrev pub all-lanes : ℕ
+  all-lanes = 2 ^ (c .n / 8) - 1
+
+  -- a merge that keeps every lane
+  abbrev pub scrubbed : UnitState (m .State) → ℕ → Outcome (m .State) (Result (Option Word) Fault)
+  scrubbed s p = merged s p 0 all-lanes

@@ -1,6 +1,7 @@
 // The unit: check bits over any code and any card, and a log of what its readings met.
 mod decoding;
 mod logs;
+mod merging;
 mod records;
 mod units;
 

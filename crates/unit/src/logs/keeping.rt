@@ -2,6 +2,7 @@
 ghost use mathlib.Core.Path.{_≡_};
 ghost use Rattle.unit.specs.Logs.{log-of, new-log, noted, error-half};
 use crate::logs::Log;
+use crate::records::FirstError;
 use crate::records::Kind;
 use crate::records::RawWord;
 
@@ -43,6 +44,19 @@ impl Log {
         ensures { λ r. ⌜ r ≡ log-of (now (self .entry)) .taken ⌝ }
     {
         self.taken
+    }
+
+    // The first error.
+    pub fn first(&self) -> Option<FirstError>
+        ensures { λ r. ⌜ r ≡ log-of (now (self .entry)) .first ⌝ }
+    {
+        match self.first {
+            Some(place) => Some(FirstError {
+                place,
+                raw: self.first_raw,
+            }),
+            None => None,
+        }
     }
 
     // The upper half of the log word: kind, counter and syndrome of the latest error.
