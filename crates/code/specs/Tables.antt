@@ -18,5 +18,9 @@ table64 =
 unfoldable pub columns64 : List ℕ
 columns64 = table64
 
+-- the lanes of the columns in the order of the data's lanes
+abbrev pub order64 : List ℕ
+order64 = 0 ∷ 1 ∷ 2 ∷ 3 ∷ 4 ∷ 5 ∷ 6 ∷ 7 ∷ []
+
 abbrev pub code64 : CodeModel
 code64 = record { n = 64; k = 8; z = 0x0c; columns = columns64; partial = λ _. 0 }

@@ -1,7 +1,8 @@
 // The code of 64 data cells and 8 check cells.
 ghost use mathlib.Core.Path.{_≡_};
 ghost use Rattle.code.specs.Codes.{told};
-ghost use Rattle.code.specs.Tables.{code64, table64};
+ghost use Rattle.code.specs.Tables.{code64, columns64, table64, order64};
+ghost use Rattle.code.specs.Lanes.{gathered};
 use crate::codes::Code;
 use crate::shares::share64;
 use crate::syndromes::Located;
@@ -26,16 +27,7 @@ pub impl Code for Code64 as Code64Code {
     }
 
     fn generate(&self, data: u64) -> u8 {
-        let lanes = lanes_of(data);
-        0x0c
-            ^ share64(0, lanes[0])
-            ^ share64(1, lanes[1])
-            ^ share64(2, lanes[2])
-            ^ share64(3, lanes[3])
-            ^ share64(4, lanes[4])
-            ^ share64(5, lanes[5])
-            ^ share64(6, lanes[6])
-            ^ share64(7, lanes[7])
+        check_bits(lanes_of(data))
     }
 
     fn locate(&self, syndrome: u8) -> Located {
@@ -128,4 +120,19 @@ fn look_up(syndrome: u8) -> Located
         even if even.count_ones() % 2 == 0 => Located::Two,
         _ => Located::Many,
     }
+}
+
+// z with the share of each lane added.
+fn check_bits(lanes: [u8; 8]) -> u8
+    ensures { λ r. ⌜ r ≡ gathered columns64 lanes 0x0c 0 order64 ⌝ }
+{
+    0x0c
+        ^ share64(0, lanes[0])
+        ^ share64(1, lanes[1])
+        ^ share64(2, lanes[2])
+        ^ share64(3, lanes[3])
+        ^ share64(4, lanes[4])
+        ^ share64(5, lanes[5])
+        ^ share64(6, lanes[6])
+        ^ share64(7, lanes[7])
 }
