@@ -1,0 +1,5 @@
+pub mod Entries
+pub mod Picked
+pub mod LaneShares
+pub mod Lawful
+pub mod Told
