@@ -15,7 +15,7 @@ use Rattle.std.proofs.shelf.Bits.{mul-add-lt, pow-below, mod-below, shr-below}
 use Rattle.std.proofs.shelf.Tests.{cond-both, cases-bool, cond-true, cond-false, lt-ltb}
 use Rattle.word.specs.Words.{toggled, of-value}
 use Rattle.word.specs.declared.words.Word.{Word}
-use Rattle.code.specs.Codes.{CodeModel, CodeLaws, picked, found, generated, codeword, syndrome, located, reduced, by-count, powers}
+use Rattle.code.specs.Codes.{CodeModel, CodeLaws, picked, found, generated, codeword, syndrome, located, told, by-count, powers}
 use Rattle.code.specs.declared.syndromes.Located.{Located}
 use Rattle.code.specs.declared.syndromes.Located.the-variants.{Clean, Data, Check, Two, Many}
 use Rattle.card.specs.Cards.{Entry, holds, faulty, Within}
@@ -59,11 +59,10 @@ module _ (c : CodeModel) (laws : CodeLaws c) where
       omega arith
 
   pub located-zero : located c 0 ≡ Clean
-  located-zero = ap (reduced c) (zero-mod (2 ^ c .k))
+  located-zero = ap (told (c .k) (c .columns)) (zero-mod (2 ^ c .k))
 
   -- a data cell that is located is one of the n
   found-data : (other : Located) → ((i : ℕ) → other ≡ Data i → ⊥) → (j : ℕ) (xs : List ℕ) (s i : ℕ) → found Data other j xs s ≡ Data i → i < j + length xs
-  unfolding found
   found-data other never j [] s i e = absurd (never i e)
   found-data other never j (x ∷ xs) s i e =
       ⊎-elim
@@ -72,7 +71,6 @@ module _ (c : CodeModel) (laws : CodeLaws c) where
       (cases-bool (eqb s x))
 
   found-check : (other : Located) → ((i : ℕ) → other ≡ Data i → ⊥) → (j : ℕ) (xs : List ℕ) (s i : ℕ) → found Check other j xs s ≡ Data i → ⊥
-  unfolding found
   found-check other never j [] s i e = never i e
   found-check other never j (x ∷ xs) s i e =
       ⊎-elim
