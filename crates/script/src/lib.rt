@@ -1,0 +1,2 @@
+// Scripts: lines of text in, lines of text out.
+mod hex;
