@@ -1,12 +1,9 @@
 -- Numbers and their hexadecimal digits. Assumes nothing.
 use mathlib.Core.Path.{_≡_, refl, sym, ap, _∙_, subst}
 use mathlib.Core.List.{List, [], _∷_, _++_}
-
-
 use Prim.Native.Nat.{ℕ, zero, suc, _+_, _-_, _*_, _^_, _/_, _%_, _<_, _≤_}
 use native.Mathlib.Nat.{mod-one, mod-eq-of-lt, lt-of-lt-of-le}
 use native.Mathlib.Omega.{arith}
-
 use lib.ListN.{length, getD, take}
 use lib.Pow.{mod-pow-add, shr-shr, pow-add, pow-mono}
 use Rattle.std.proofs.shelf.Bits.{mod-below}
@@ -25,7 +22,7 @@ hex-more (suc k) v d h =
     let four : 4 * suc k ≡ 4 + 4 * k = omega arith in
     let low : (v * 16 + d) / 2 ^ 4 ≡ v = omega arith in
     let top : (v * 16 + d) / 2 ^ (4 * suc k) ≡ v / 2 ^ (4 * k) =
-      ap (λ x. (v * 16 + d) / 2 ^ x) four ∙ sym (shr-shr (v * 16 + d) 4 (4 * k)) ∙ ap (λ x. x / 2 ^ (4 * k)) low in
+    ap (λ x. (v * 16 + d) / 2 ^ x) four ∙ sym (shr-shr (v * 16 + d) 4 (4 * k)) ∙ ap (λ x. x / 2 ^ (4 * k)) low in
     ap (λ x. hex-digit (x % 16) ∷ hex (suc k) (v * 16 + d)) top ∙ ap (λ l. hex-digit (v / 2 ^ (4 * k) % 16) ∷ l) (hex-more k v d h)
 
 pow-four : (k : ℕ) → 2 ^ (4 * suc k) ≡ 16 * 2 ^ (4 * k)
@@ -53,7 +50,7 @@ hex-apart (suc k) v u e =
     let parts = head-same e in
     let four : 4 + 4 * k ≡ 4 * suc k = omega arith in
     let tops : v / 2 ^ (4 * k) % 16 ≡ u / 2 ^ (4 * k) % 16 =
-      digit-apart _ _ (mod-below (v / 2 ^ (4 * k)) 16 (omega arith)) (mod-below (u / 2 ^ (4 * k)) 16 (omega arith)) (parts .0) in
+    digit-apart _ _ (mod-below (v / 2 ^ (4 * k)) 16 (omega arith)) (mod-below (u / 2 ^ (4 * k)) 16 (omega arith)) (parts .0) in
     let rest = hex-apart k v u (parts .1) in
     let sv : v % 2 ^ (4 * suc k) ≡ (v / 2 ^ (4 * k) % 16) * 2 ^ (4 * k) + v % 2 ^ (4 * k) = ap (λ x. v % 2 ^ x) (sym four) ∙ mod-pow-add v 4 (4 * k) in
     let su : u % 2 ^ (4 * suc k) ≡ (u / 2 ^ (4 * k) % 16) * 2 ^ (4 * k) + u % 2 ^ (4 * k) = ap (λ x. u % 2 ^ x) (sym four) ∙ mod-pow-add u 4 (4 * k) in
@@ -76,9 +73,10 @@ no-number xs i h never v e =
 pub number-more : (xs : List ℕ) (i v d : ℕ) → i < length xs → d < 16 → getD xs i 0 ≡ hex-digit d → v < 2 ^ (4 * i) → take i xs ≡ hex i v →
     (v * 16 + d < 2 ^ (4 * (i + 1))) × (take (i + 1) xs ≡ hex (i + 1) (v * 16 + d))
 number-more xs i v d h b e below read =
-    let one : suc i ≡ i + 1 = omega arith in
-    (subst (λ n. v * 16 + d < 2 ^ (4 * n)) one (below-more i v d below b),
-      take-more xs i 0 h ∙ ap (λ y. take i xs ++ (y ∷ [])) e ∙ ap (λ l. l ++ (hex-digit d ∷ [])) read ∙ sym (hex-more i v d b) ∙ ap (λ n. hex n (v * 16 + d)) one)
+    let one : suc i ≡ i + 1 = omega arith in (
+      subst (λ n. v * 16 + d < 2 ^ (4 * n)) one (below-more i v d below b),
+      take-more xs i 0 h ∙ ap (λ y. take i xs ++ (y ∷ [])) e ∙ ap (λ l. l ++ (hex-digit d ∷ [])) read ∙ sym (hex-more i v d b) ∙ ap (λ n. hex n (v * 16 + d)) one,
+    )
 
 -- all digits were read
 pub number-all : (xs : List ℕ) (i v : ℕ) → i ≡ length xs → v < 2 ^ (4 * i) → take i xs ≡ hex i v → (v < 2 ^ (4 * length xs)) × (xs ≡ hex (length xs) v)

@@ -17,16 +17,31 @@ use Rattle.script.specs.Hex.{hex-digit, hex}
 abbrev pub field : ℕ → ℕ → List ℕ
 field k v = 32 ∷ hex k v
 
--- a script line's bytes, without the 0A that ends it: a letter, then its fields
+-- the letter that decides the call
+abbrev pub letter-of : Call → ℕ
+letter-of (Read p) = 82
+letter-of (Write p w) = 87
+letter-of (Merge p w e) = 77
+letter-of (Scrub p) = 83
+letter-of (Inject p x) = 73
+letter-of Log = 76
+letter-of First = 70
+letter-of Clear = 67
+
+-- its fields: a place of 4 digits, a word of 16, enables and a cell of 2
+abbrev pub fields-of : Call → List ℕ
+fields-of (Read p) = field 4 p
+fields-of (Write p w) = field 4 p ++ field 16 (w .low)
+fields-of (Merge p w e) = field 4 p ++ (field 2 e ++ field 16 (w .low))
+fields-of (Scrub p) = field 4 p
+fields-of (Inject p x) = field 4 p ++ field 2 x
+fields-of Log = []
+fields-of First = []
+fields-of Clear = []
+
+-- a script line's bytes, without the 0A that ends it
 abbrev pub line-of : Call → List ℕ
-line-of (Read p) = 82 ∷ field 4 p
-line-of (Write p w) = 87 ∷ field 4 p ++ field 16 (w .low)
-line-of (Merge p w e) = 77 ∷ field 4 p ++ (field 2 e ++ field 16 (w .low))
-line-of (Scrub p) = 83 ∷ field 4 p
-line-of (Inject p x) = 73 ∷ field 4 p ++ field 2 x
-line-of Log = 76 ∷ []
-line-of First = 70 ∷ []
-line-of Clear = 67 ∷ []
+line-of c = letter-of c ∷ fields-of c
 
 -- "ok"
 abbrev pub ok-text : List ℕ

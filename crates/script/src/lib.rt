@@ -1,2 +1,4 @@
 // Scripts: lines of text in, lines of text out.
+mod commands;
 mod hex;
+mod parsing;
