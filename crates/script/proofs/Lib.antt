@@ -3,3 +3,5 @@ pub mod FieldFacts
 pub mod LetterFacts
 pub mod OneText
 pub mod CommandTexts
+pub mod WriteFacts
+pub mod RunFacts

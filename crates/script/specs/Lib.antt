@@ -1,3 +1,5 @@
 pub mod Hex
 pub mod Texts
 pub mod Commands
+pub mod Written
+pub mod Scripts

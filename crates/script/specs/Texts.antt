@@ -11,7 +11,7 @@ use Rattle.unit.specs.declared.calls.Call.{Call}
 use Rattle.unit.specs.declared.calls.Call.the-variants.{Read, Write, Merge, Scrub, Inject, Log, First, Clear}
 use Rattle.unit.specs.declared.calls.Answer.{Answer}
 use Rattle.unit.specs.declared.calls.Answer.the-variants.{Done, Gave, Merged, LogWord, FirstWas, Refused}
-use Rattle.script.specs.Hex.{hex-digit, hex}
+use Rattle.script.specs.Hex.{hex}
 
 -- a field: one blank, then the k digits of a number
 abbrev pub field : ℕ → ℕ → List ℕ
@@ -53,12 +53,15 @@ none-text = 110 ∷ 111 ∷ 110 ∷ 101 ∷ 10 ∷ []
 
 -- "!", then number, place, depth and way
 abbrev pub fault-text : Fault → List ℕ
-fault-text f = 33 ∷ 32 ∷ hex-digit (number-of (f .refusal)) ∷ field 4 (f .place) ++ (field 2 (f .depth) ++ (field 4 (f .way) ++ (10 ∷ [])))
+fault-text f = 33 ∷ field 1 (number-of (f .refusal)) ++ (field 4 (f .place) ++ (field 2 (f .depth) ++ (field 4 (f .way) ++ (10 ∷ []))))
 
--- "=", then place, check bits and data, or "none"
+-- "=", then place, check bits and data
+abbrev pub first-line : FirstError → List ℕ
+first-line e = 61 ∷ field 4 (e .place) ++ (field 2 (e .raw .check) ++ (field 16 (e .raw .data) ++ (10 ∷ [])))
+
 abbrev pub first-text : Option FirstError → List ℕ
 first-text None = none-text
-first-text (Some e) = 61 ∷ field 4 (e .place) ++ (field 2 (e .raw .check) ++ (field 16 (e .raw .data) ++ (10 ∷ [])))
+first-text (Some e) = first-line e
 
 -- the line that shows an answer, with the 0A that ends it
 abbrev pub answer-text : Answer → List ℕ

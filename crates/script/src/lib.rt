@@ -2,3 +2,5 @@
 mod commands;
 mod hex;
 mod parsing;
+mod printing;
+mod running;
