@@ -1,3 +1,5 @@
 pub mod Codes
-pub mod Tables
 pub mod Lanes
+pub mod Tables
+pub mod Decoding
+pub mod Distance
