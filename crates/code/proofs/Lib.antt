@@ -7,3 +7,4 @@ pub mod Parity
 pub mod Found
 pub mod Distances
 pub mod Decoded
+pub mod Slices

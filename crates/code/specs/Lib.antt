@@ -3,3 +3,5 @@ pub mod Lanes
 pub mod Tables
 pub mod Decoding
 pub mod Distance
+pub mod Cascade
+pub mod Worked
