@@ -3,3 +3,8 @@ pub mod Picked
 pub mod LaneShares
 pub mod Lawful
 pub mod Told
+pub mod Parity
+pub mod Found
+pub mod Distances
+pub mod Decoded
+pub mod Slices

@@ -62,8 +62,11 @@ by-count s = cond (eqb (ones s % 2) 0) Two Many
 abbrev pub told : ℕ → List ℕ → ℕ → Located
 told k columns s = cond (eqb s 0) Clean (found Data (found Check (by-count s) 0 (powers k 1) s) 0 columns s)
 
+abbrev pub reduced : CodeModel → ℕ → Located
+reduced c s = told (c .k) (c .columns) s
+
 abbrev pub located : CodeModel → ℕ → Located
-located c s = told (c .k) (c .columns) (s % 2 ^ c .k)
+located c s = reduced c (s % 2 ^ c .k)
 
 -- the raw word of the data d with its generated check bits
 abbrev pub codeword : CodeModel → ℕ → ℕ

@@ -2,6 +2,7 @@
 use mathlib.Core.List.{List, [], _∷_}
 use Prim.Native.Nat.{ℕ}
 use Rattle.code.specs.Codes.{CodeModel}
+use Rattle.code.specs.Lanes.{ordered}
 
 abbrev pub table64 : List ℕ
 table64 =
@@ -18,9 +19,43 @@ table64 =
 unfoldable pub columns64 : List ℕ
 columns64 = table64
 
--- the lanes of the columns in the order of the data's lanes
+-- the lanes of these columns, in the order of the data's lanes
 abbrev pub order64 : List ℕ
 order64 = 0 ∷ 1 ∷ 2 ∷ 3 ∷ 4 ∷ 5 ∷ 6 ∷ 7 ∷ []
 
+abbrev pub order32 : List ℕ
+order32 = 4 ∷ 1 ∷ 2 ∷ 7 ∷ []
+
+-- four lanes of the 64-bit code
+abbrev pub table32 : List ℕ
+table32 = ordered table64 order32
+
+unfoldable pub columns32 : List ℕ
+columns32 = ordered columns64 order32
+
+abbrev pub table16 : List ℕ
+table16 =
+    0x38 ∷ 0x19 ∷ 0x1a ∷ 0x0b ∷ 0x1c ∷ 0x0d ∷ 0x0e ∷ 0x1f ∷
+    0x2c ∷ 0x25 ∷ 0x26 ∷ 0x23 ∷ 0x34 ∷ 0x31 ∷ 0x32 ∷ 0x37 ∷ []
+
+unfoldable pub columns16 : List ℕ
+columns16 = table16
+
+abbrev pub order16 : List ℕ
+order16 = 0 ∷ 1 ∷ []
+
+-- z where check bits 2 and 3 are kept inverted
+abbrev pub inverted : ℕ
+inverted = 0x0c
+
+abbrev pub z16 : ℕ
+z16 = 0x00
+
 abbrev pub code64 : CodeModel
-code64 = record { n = 64; k = 8; z = 0x0c; columns = columns64; partial = λ _. 0 }
+code64 = record { n = 64; k = 8; z = inverted; columns = columns64; partial = λ _. 0 }
+
+abbrev pub code32 : CodeModel
+code32 = record { n = 32; k = 7; z = inverted; columns = columns32; partial = λ _. 0 }
+
+abbrev pub code16 : CodeModel
+code16 = record { n = 16; k = 6; z = z16; columns = columns16; partial = λ _. 0 }

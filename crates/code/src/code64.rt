@@ -1,9 +1,11 @@
 // The code of 64 data cells and 8 check cells.
 ghost use mathlib.Core.Path.{_≡_};
+ghost use lib.Chars.{codes};
 ghost use Rattle.code.specs.Codes.{told};
-ghost use Rattle.code.specs.Tables.{code64, columns64, table64, order64};
+ghost use Rattle.code.specs.Tables.{code64, columns64, inverted, order64, table64};
 ghost use Rattle.code.specs.Lanes.{gathered};
 use crate::codes::Code;
+use crate::shares::INVERTED;
 use crate::shares::share64;
 use crate::syndromes::Located;
 use word::lanes_of;
@@ -17,6 +19,12 @@ pub impl Code for Code64 as Code64Code {
     const CHECK: u8 = 8;
 
     ghost code = { code64 };
+
+    ghost title = { codes "64-bit code" };
+
+    fn name(&self) -> &str {
+        "64-bit code"
+    }
 
     fn data_width(&self) -> u8 {
         Self::DATA
@@ -124,9 +132,9 @@ fn look_up(syndrome: u8) -> Located
 
 // z with the share of each lane added.
 fn check_bits(lanes: [u8; 8]) -> u8
-    ensures { λ r. ⌜ r ≡ gathered columns64 lanes 0x0c 0 order64 ⌝ }
+    ensures { λ r. ⌜ r ≡ gathered columns64 lanes inverted 0 order64 ⌝ }
 {
-    0x0c
+    INVERTED
         ^ share64(0, lanes[0])
         ^ share64(1, lanes[1])
         ^ share64(2, lanes[2])
