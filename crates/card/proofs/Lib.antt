@@ -1,2 +1,5 @@
 pub mod WidthFacts
 pub mod BuiltinLaws
+pub mod BufferFacts
+pub mod ByteLaws
+mod Lending

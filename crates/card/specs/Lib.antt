@@ -1,3 +1,4 @@
 pub mod Cards
 pub mod Widths
 pub mod Builtin
+pub mod Buffers
