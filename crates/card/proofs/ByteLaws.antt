@@ -12,7 +12,7 @@ use Rattle.std.proofs.shelf.Tests.{cond-both, cases-lt}
 use Rattle.card.specs.Cards.{CardLaws, holds}
 use Rattle.card.specs.Widths.{proper, shown-width}
 use Rattle.card.specs.Buffers.{Buffer, byte-card, loaded, stored}
-use Rattle.card.proofs.WidthFacts.{shown-within, proper-from-place}
+use Rattle.card.proofs.WidthFacts.{shown-within, place-from}
 use Rattle.card.proofs.BufferFacts.{length-stored, loaded-here, loaded-there}
 
 few : (s : Buffer) → byte-card .count s ≤ 65536
@@ -20,7 +20,7 @@ few s = cond-both (proper (s .made-with)) (min (length (s .bytes) / 9) 65536) 0 
 
 -- the nine bytes of a place lie in the buffer
 pub place-inside : (s : Buffer) (p : ℕ) → p < byte-card .count s → 9 * p + 9 ≤ length (s .bytes)
-place-inside s p h = let k = proper-from-place (s .made-with) _ p h .1 in omega arith
+place-inside s p h = let k = place-from (proper (s .made-with)) _ p h .1 in omega arith
 
 -- the nine bytes of two places do not meet
 apart : (p q : ℕ) → q ≢ p → (9 * q + 9 ≤ 9 * p) ⊎ (9 * p + 9 ≤ 9 * q)

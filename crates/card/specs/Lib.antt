@@ -2,3 +2,4 @@ pub mod Cards
 pub mod Widths
 pub mod Builtin
 pub mod Buffers
+pub mod Pairs

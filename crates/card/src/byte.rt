@@ -3,6 +3,7 @@ ghost use mathlib.Core.Path.{_≡_};
 ghost use Prim.Native.Nat.{_+_, _*_, _≤_};
 ghost use lib.ListN.{length};
 ghost use Rattle.word.specs.Words.{value, of-value};
+ghost use Rattle.card.specs.Cards.{write-answer, write-state};
 ghost use Rattle.card.specs.Buffers.{byte-card, byte-of, lent, loaded, stored};
 use crate::cards::Card;
 use word::Fault;
@@ -106,4 +107,13 @@ fn store(bytes: &mut [u8], at: usize, word: Word)
 {
     bytes[at..at + 8].copy_from_slice(&lanes_of(word.low));
     bytes[at + 8] = word.top;
+}
+
+// A write to a buffer that is the caller's again afterwards.
+pub fn write_to_buffer(width: u8, bytes: &mut [u8], place: u16, word: Word) -> Result<(), Fault>
+    ensures answer { λ r. ⌜ r ≡ write-answer byte-card (lent width (bytes .entry)) place (value word) ⌝ }
+    ensures after { λ _. ⌜ now (bytes .exit) ≡ write-state byte-card (lent width (bytes .entry)) place (value word) .bytes ⌝ }
+{
+    let mut card = ByteCard::new(width, bytes);
+    card.write(place, word)
 }

@@ -2,9 +2,13 @@
 mod builtin;
 mod byte;
 mod cards;
+mod pair;
 
 pub use builtin::BuiltinCard;
 pub use builtin::BuiltinIsCard;
 pub use byte::ByteCard;
 pub use byte::ByteIsCard;
+pub use byte::write_to_buffer;
 pub use cards::Card;
+pub use pair::PairCard;
+pub use pair::PairIsCard;

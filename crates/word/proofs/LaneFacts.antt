@@ -37,8 +37,16 @@ lane-below j m v h =
 -- the eight lanes of a word's low part are the word's first eight
 pub lane-list-below : (v : ℕ) → lane-list (v % 2 ^ 64) ≡ lane-list v
 lane-list-below v =
-    cc (lane-below 0 8 v (omega arith), lane-below 1 8 v (omega arith), lane-below 2 8 v (omega arith), lane-below 3 8 v (omega arith),
-    lane-below 4 8 v (omega arith), lane-below 5 8 v (omega arith), lane-below 6 8 v (omega arith), lane-below 7 8 v (omega arith))
+    cc (
+      lane-below 0 8 v (omega arith),
+      lane-below 1 8 v (omega arith),
+      lane-below 2 8 v (omega arith),
+      lane-below 3 8 v (omega arith),
+      lane-below 4 8 v (omega arith),
+      lane-below 5 8 v (omega arith),
+      lane-below 6 8 v (omega arith),
+      lane-below 7 8 v (omega arith),
+    )
 
 -- the ninth lane is a word's top part
 pub lane-top : (a b : ℕ) → a < 2 ^ 64 → b < 2 ^ 8 → b ≡ lane 8 (a + 2 ^ 64 * b)
