@@ -16,26 +16,10 @@ use Rattle.word.specs.declared.words.Word.{Word}
 use Rattle.word.specs.declared.faults.Fault.{Fault}
 use Rattle.word.proofs.Values.{value-of-value}
 use Rattle.card.specs.Cards.{CardModel, CardLaws, Entry, holds, faulty, Within, shown, read-answer, read-state, write-answer}
+use Rattle.card.proofs.CutFacts.{low-part, high-part, parts-whole, whole-below}
 use Rattle.card.proofs.CardFacts.{read-entered, read-leads, write-not-refused}
 use Rattle.card.proofs.WidthFacts.{place-from}
 use Rattle.card.specs.Pairs.{Both, joined, unless-faulty, pair-card}
-
--- the two parts of a word of a + b cells, each within its own width, and the word that they make
-pub low-part : (a v : ℕ) → v % 2 ^ a < 2 ^ a
-low-part a v = mod-below v (2 ^ a) (pow-pos a)
-
-pub high-part : (a b v : ℕ) → v < 2 ^ (a + b) → v / 2 ^ a < 2 ^ b
-high-part a b v h = let e : a + b ≡ b + a = omega arith in shr-below v b a (rw e at h)
-
-parts-whole : (a v : ℕ) → v % 2 ^ a + 2 ^ a * (v / 2 ^ a) ≡ v
-parts-whole a v = let e = div-add-mod' v (2 ^ a) in let t = mul-comm (2 ^ a) (v / 2 ^ a) in omega arith
-
-whole-below : (a b x y : ℕ) → x < 2 ^ a → y < 2 ^ b → x + 2 ^ a * y < 2 ^ (a + b)
-whole-below a b x y h k =
-    let e = mul-add-lt y (2 ^ a) x (2 ^ b) k h in
-    let t = mul-comm (2 ^ a) y in
-    let p = pow-add 2 a b in
-    omega arith
 
 joined-within : (a b : ℕ) (x y : Entry) → Within a x → Within b y → Within (a + b) (joined a x y)
 joined-within a b (holds x) (holds y) h k = whole-below a b x y h k

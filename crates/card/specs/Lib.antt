@@ -3,3 +3,4 @@ pub mod Widths
 pub mod Builtin
 pub mod Buffers
 pub mod Pairs
+pub mod Parities

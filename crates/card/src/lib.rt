@@ -3,6 +3,7 @@ mod builtin;
 mod byte;
 mod cards;
 mod pair;
+mod parity;
 
 pub use builtin::BuiltinCard;
 pub use builtin::BuiltinIsCard;

@@ -4,6 +4,7 @@ use Prim.Native.Nat.{ℕ, zero, suc, _+_, _-_, _*_, _^_, _/_, _%_, _<_, _≤_}
 use native.Mathlib.Nat.{mul-comm, mod-eq-of-lt}
 use native.Mathlib.Omega.{arith}
 use lib.Pow.{mod-mod-pow}
+use lib.ListN.{getD}
 use Rattle.std.proofs.shelf.Bits.{mod-pow-add, field-of}
 use Rattle.word.specs.Lanes.{lane, lane-list, lane-sum}
 
@@ -25,14 +26,29 @@ lanes-whole (suc m) v =
     let next : 8 * suc m ≡ 8 + 8 * m = omega arith in
     rw next (omega arith)
 
--- a lane is not touched by what lies above
-pub lane-below : (j m v : ℕ) → j < m → lane j (v % 2 ^ (8 * m)) ≡ lane j v
-lane-below j m v h =
-    let rest : 8 * m ≡ 8 * (m - j - 1) + (8 + 8 * j) = omega arith in
-    let low : v % 2 ^ (8 * m) % 2 ^ (8 + 8 * j) ≡ v % 2 ^ (8 + 8 * j) = rw rest (mod-mod-pow v (8 * (m - j - 1)) (8 + 8 * j)) in
-    let whole = field-of v 8 (8 * j) in
-    let part = field-of (v % 2 ^ (8 * m)) 8 (8 * j) in
+-- c cells from the k-th on are not touched by what lies above
+pub cells-below : (c k m v : ℕ) → c + k ≤ m → v % 2 ^ m / 2 ^ k % 2 ^ c ≡ v / 2 ^ k % 2 ^ c
+cells-below c k m v h =
+    let rest : m ≡ (m - (c + k)) + (c + k) = omega arith in
+    let low : v % 2 ^ m % 2 ^ (c + k) ≡ v % 2 ^ (c + k) = rw rest (mod-mod-pow v (m - (c + k)) (c + k)) in
+    let whole = field-of v c k in
+    let part = field-of (v % 2 ^ m) c k in
     cc
+
+pub lane-below : (j m v : ℕ) → j < m → lane j (v % 2 ^ (8 * m)) ≡ lane j v
+lane-below j m v h = cells-below 8 (8 * j) (8 * m) v (omega arith)
+
+-- a lane by its place in the list
+pub lane-list-at : (v j : ℕ) → j < 8 → getD (lane-list v) j 0 ≡ lane j v
+lane-list-at v zero h = refl
+lane-list-at v (suc zero) h = refl
+lane-list-at v (suc (suc zero)) h = refl
+lane-list-at v (suc (suc (suc zero))) h = refl
+lane-list-at v (suc (suc (suc (suc zero)))) h = refl
+lane-list-at v (suc (suc (suc (suc (suc zero))))) h = refl
+lane-list-at v (suc (suc (suc (suc (suc (suc zero)))))) h = refl
+lane-list-at v (suc (suc (suc (suc (suc (suc (suc zero))))))) h = refl
+lane-list-at v (suc (suc (suc (suc (suc (suc (suc (suc j)))))))) h = absurd (omega arith)
 
 -- the eight lanes of a word's low part are the word's first eight
 pub lane-list-below : (v : ℕ) → lane-list (v % 2 ^ 64) ≡ lane-list v
