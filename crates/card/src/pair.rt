@@ -1,27 +1,18 @@
 // The pair: two cards side by side, as one card of both widths.
-ghost use mathlib.Core.Path.{_≡_};
-ghost use Rattle.card.specs.Pairs.{Both, pair-card};
+ghost use Rattle.card.specs.Pairs.{pair-card};
 use crate::cards::Card;
 use word::Fault;
 use word::Refusal;
 use word::Side;
 use word::Word;
 
+// Where the widths of the two make more than 72 it has width 72 and no places.
 #[derive(Drop)]
 pub struct PairCard<L, H> {
-    // the cells below the width of this card
-    low: L,
-    // the cells from there on
-    high: H,
-}
-
-impl<L: Card, H: Card> PairCard<L, H> {
-    // The two as one card. Where their widths make more than 72 it has width 72 and no places.
-    pub fn new(low: L, high: H) -> PairCard<L, H>
-        ensures { λ r. ⌜ r ≡ record { low = low; high = high } ⌝ }
-    {
-        PairCard { low, high }
-    }
+    // has the cells below its width
+    pub low: L,
+    // has the cells from there on
+    pub high: H,
 }
 
 pub impl<L: Card, H: Card> Card for PairCard<L, H> as PairIsCard {
