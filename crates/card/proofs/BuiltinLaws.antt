@@ -15,7 +15,7 @@ use Rattle.word.proofs.Values.{value-of-value}
 use Rattle.card.specs.Cards.{CardLaws, Entry, holds}
 use Rattle.card.specs.Widths.{proper, shown-width}
 use Rattle.card.specs.Builtin.{Builtin, builtin-card, no-word}
-use Rattle.card.proofs.WidthFacts.{shown-within, proper-from-place}
+use Rattle.card.proofs.WidthFacts.{shown-within, place-from}
 
 few : (s : Builtin) → builtin-card .count s ≤ 65536
 few s = cond-both (proper (s .made-with)) (min 128 (length (s .words))) 0 (λ n. n ≤ 65536) (λ _. omega arith) (λ _. omega arith)
@@ -23,7 +23,7 @@ few s = cond-both (proper (s .made-with)) (min 128 (length (s .words))) 0 (λ n.
 write-here : (s : Builtin) (p v : ℕ) → p < builtin-card .count s → v < 2 ^ shown-width (s .made-with) →
     builtin-card .entry (builtin-card .after-write s p v) p ≡ holds v
 write-here s p v h below =
-    let inside : p < length (s .words) = let q = proper-from-place (s .made-with) _ p h .1 in omega arith in
+    let inside : p < length (s .words) = let q = place-from (proper (s .made-with)) _ p h .1 in omega arith in
     let stored = getD-set-same (s .words) p (of-value v) no-word inside in
     ap (λ w. holds (value w % 2 ^ shown-width (s .made-with))) stored ∙
     ap (λ x. holds (x % 2 ^ shown-width (s .made-with))) (value-of-value v) ∙ ap holds (mod-eq-of-lt below)
