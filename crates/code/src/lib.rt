@@ -21,6 +21,7 @@ pub use code32::Code32Code;
 pub use code64::Code64;
 pub use code64::Code64Code;
 pub use codes::Code;
+pub use decoding::correct;
 pub use decoding::decode;
 pub use decoding::syndrome_of;
 pub use promises::clean_syndrome;

@@ -7,9 +7,10 @@ use native.Mathlib.Omega.{arith}
 use lib.Dec.{eqb}
 use Rattle.std.proofs.shelf.Tests.{cond-both, cases-bool, cond-true, cond-false, eqb-true}
 use Rattle.code.specs.Codes.{CodeModel, CodeLaws, codeword}
-use Rattle.card.specs.Cards.{CardModel, CardLaws, Entry, holds, faulty}
-use Rattle.unit.specs.Units.{UnitState, unit-card, decoded}
-use Rattle.unit.proofs.CodeFacts.{codeword-below, decoded-within, decoded-codeword}
+use Rattle.card.specs.Cards.{CardModel, CardLaws, Entry, holds, faulty, Within}
+use Rattle.unit.specs.Units.{UnitState, unit-card, unit-entry}
+use Rattle.code.proofs.Distances.{codeword-below}
+use Rattle.unit.proofs.CodeFacts.{entry-within, entry-codeword}
 
 module _ (c : CodeModel) (m : CardModel) where
   -- a unit that has a place fits the card below, which has that place too
@@ -38,15 +39,17 @@ module _ (c : CodeModel) (m : CardModel) (cl : CodeLaws c) (ml : CardLaws m) whe
     wide-least = λ s. let l = cl .n-least in omega arith;
     wide-most = λ s. let l = cl .n-most in omega arith;
     few = unit-few;
-    within = λ s p h. decoded-within c cl p (m .entry (s .card) p);
+    within = λ s p h.
+      let f = fits-from-place c m s p h in
+      entry-within c cl p (m .entry (s .card) p) (subst (λ w. Within w (m .entry (s .card) p)) (f .0) (ml .within (s .card) p (f .1)));
     read-width = λ s p h. refl;
     read-count = λ s p h. let q = fits-from-place c m s p h .1 in same-count s (unit-card c m .after-read s p) (ml .read-width (s .card) p q) (ml .read-count (s .card) p q);
-    read-entry = λ s p q h k. ap (decoded c q) (ml .read-entry (s .card) p q (fits-from-place c m s p h .1) (fits-from-place c m s q k .1));
+    read-entry = λ s p q h k. ap (unit-entry c q) (ml .read-entry (s .card) p q (fits-from-place c m s p h .1) (fits-from-place c m s q k .1));
     write-width = λ s p v h b. refl;
     write-count = λ s p v h b.
         let q = fits-from-place c m s p h .1 in
         let f = codeword-fits s p v h b in
         same-count s (unit-card c m .after-write s p v) (ml .write-width (s .card) p (codeword c v) q f) (ml .write-count (s .card) p (codeword c v) q f);
-    write-here = λ s p v h b. ap (decoded c p) (ml .write-here (s .card) p (codeword c v) (fits-from-place c m s p h .1) (codeword-fits s p v h b)) ∙ decoded-codeword c cl p v b;
-    write-there = λ s p q v h k ne b. ap (decoded c q) (ml .write-there (s .card) p q (codeword c v) (fits-from-place c m s p h .1) (fits-from-place c m s q k .1) ne (codeword-fits s p v h b));
+    write-here = λ s p v h b. ap (unit-entry c p) (ml .write-here (s .card) p (codeword c v) (fits-from-place c m s p h .1) (codeword-fits s p v h b)) ∙ entry-codeword c cl p v b;
+    write-there = λ s p q v h k ne b. ap (unit-entry c q) (ml .write-there (s .card) p q (codeword c v) (fits-from-place c m s p h .1) (fits-from-place c m s q k .1) ne (codeword-fits s p v h b));
   }

@@ -20,8 +20,8 @@ use Rattle.word.proofs.Values.{value-of-value}
 use Rattle.code.specs.Codes.{CodeModel, CodeLaws, codeword}
 use Rattle.card.specs.Cards.{CardModel, CardLaws, Entry, holds, faulty, Within, shown, read-answer, read-state, write-answer, write-state}
 use Rattle.unit.specs.Logs.{LogState}
-use Rattle.unit.specs.Units.{UnitState, unit-card, decoded, logged, injecting, injected, merging, kept, merged}
-use Rattle.unit.proofs.CodeFacts.{codeword-below}
+use Rattle.unit.specs.Units.{UnitState, unit-card, unit-entry, logged, injecting, injected, merging, kept, merged}
+use Rattle.card.proofs.CardFacts.{read-entered, read-leads, read-within, write-granted, write-leads}
 use Rattle.unit.specs.Merges.{joined}
 use Rattle.unit.proofs.UnitLaws.{fits-from-place, codeword-fits, unit-laws}
 use Rattle.unit.proofs.MergeFacts.{joined-below, joined-short}
@@ -30,23 +30,9 @@ shown-ok : (e : Entry) (w : Word) → Ok w ≡ shown e → e ≡ holds (value w)
 shown-ok (holds v) w e = let f : of-value v ≡ w = cc in ap holds (sym (value-of-value v) ∙ ap value f)
 shown-ok (faulty f) w e = let z : _≡_ {A = ℕ} 0 1 = cc in absurd (omega arith)
 
--- a card that has the place: what it answers and where it goes
-module _ (m : CardModel) (s : m .State) (p : ℕ) (h : p < m .count s) where
-  pub read-answered : read-answer m s p ≡ shown (m .entry s p)
-  read-answered = cond-true _ _ _ (lt-ltb p (m .count s) h)
-
-  pub read-left : read-state m s p ≡ m .after-read s p
-  read-left = cond-true _ _ _ (lt-ltb p (m .count s) h)
-
-  pub entry-read : (w : Word) → Ok w ≡ read-answer m s p → m .entry s p ≡ holds (value w)
-  entry-read w e = shown-ok (m .entry s p) w (e ∙ read-answered)
-
-  module _ (v : ℕ) (b : v < 2 ^ m .width s) where
-    pub write-answered : write-answer m s p v ≡ Ok tt
-    write-answered = cond-true _ _ _ (lt-ltb p (m .count s) h) ∙ cond-true _ _ _ (lt-ltb v (2 ^ m .width s) b)
-
-    pub write-left : write-state m s p v ≡ m .after-write s p v
-    write-left = cond-true _ _ _ (lt-ltb p (m .count s) h) ∙ cond-true _ _ _ (lt-ltb v (2 ^ m .width s) b)
+-- what a read that gave a word says of the entry
+pub entry-read : (m : CardModel) (s : m .State) (p : ℕ) → p < m .count s → (w : Word) → Ok w ≡ read-answer m s p → m .entry s p ≡ holds (value w)
+entry-read m s p h w e = shown-ok (m .entry s p) w (e ∙ read-entered m s p h)
 
 module _ (c : CodeModel) (m : CardModel) (cl : CodeLaws c) (ml : CardLaws m) (s : UnitState (m .State)) (p : ℕ) (h : p < unit-card c m .count s) where
   below : p < m .count (s .card)
@@ -54,20 +40,18 @@ module _ (c : CodeModel) (m : CardModel) (cl : CodeLaws c) (ml : CardLaws m) (s 
 
   -- a raw word that was read is below 2 ^ (n + k)
   pub raw-read : (w : Word) → Ok w ≡ read-answer m (s .card) p → value w < 2 ^ (c .n + c .k)
-  raw-read w e =
-      let inside : Within (m .width (s .card)) (holds (value w)) = subst (Within (m .width (s .card))) (entry-read m (s .card) p below w e) (ml .within (s .card) p below) in
-      subst (λ n. value w < 2 ^ n) (fits-from-place c m s p h .0) inside
+  raw-read w e = subst (λ n. value w < 2 ^ n) (fits-from-place c m s p h .0) (read-within m (s .card) p below ml w e)
 
-  pub read-sound : (w : Word) → Ok w ≡ read-answer m (s .card) p → (r : Result Word Fault) → r ≡ shown (decoded c p (holds (value w))) → r ≡ read-answer (unit-card c m) s p
-  read-sound w e r t = t ∙ ap (λ x. shown (decoded c p x)) (sym (entry-read m (s .card) p below w e)) ∙ sym (read-answered (unit-card c m) s p h)
+  pub read-sound : (w : Word) → Ok w ≡ read-answer m (s .card) p → (r : Result Word Fault) → r ≡ shown (unit-entry c p (holds (value w))) → r ≡ read-answer (unit-card c m) s p
+  read-sound w e r t = t ∙ ap (λ x. shown (unit-entry c p x)) (sym (entry-read m (s .card) p below w e)) ∙ sym (read-entered (unit-card c m) s p h)
 
   pub read-logged : (w : Word) → Ok w ≡ read-answer m (s .card) p → (l : LogState) (t : m .State) → l ≡ logged c p (holds (value w)) (s .log) → t ≡ read-state m (s .card) p →
       _≡_ {A = UnitState (m .State)} (record { log = l; card = t }) (read-state (unit-card c m) s p)
   read-logged w e l t el et =
       let log : l ≡ logged c p (m .entry (s .card) p) (s .log) = el ∙ ap (λ x. logged c p x (s .log)) (sym (entry-read m (s .card) p below w e)) in
-      let card : t ≡ m .after-read (s .card) p = et ∙ read-left m (s .card) p below in
+      let card : t ≡ m .after-read (s .card) p = et ∙ read-leads m (s .card) p below in
       ap (λ x. record { log = x; card = t }) log ∙ ap (λ x. record { log = logged c p (m .entry (s .card) p) (s .log); card = x }) card ∙
-      sym (read-left (unit-card c m) s p h)
+      sym (read-leads (unit-card c m) s p h)
 
   -- a write that fits lays the codeword below
   module _ (w x : Word) (b : value w < 2 ^ c .n) (e : x ≡ of-value (codeword c (w .low))) where
@@ -81,17 +65,17 @@ module _ (c : CodeModel) (m : CardModel) (cl : CodeLaws c) (ml : CardLaws m) (s 
     fits = codeword-fits c m cl ml s p (value w) h b
 
     pub write-sound : (r : Result (Unit {0}) Fault) → r ≡ write-answer m (s .card) p (value x) → r ≡ write-answer (unit-card c m) s p (value w)
-    write-sound r a = a ∙ ap (write-answer m (s .card) p) laid ∙ write-answered m (s .card) p below (codeword c (value w)) fits ∙ sym (write-answered (unit-card c m) s p h (value w) b)
+    write-sound r a = a ∙ ap (write-answer m (s .card) p) laid ∙ write-granted m (s .card) p below (codeword c (value w)) fits ∙ sym (write-granted (unit-card c m) s p h (value w) b)
 
     pub write-done : (t : m .State) → t ≡ write-state m (s .card) p (value x) → _≡_ {A = UnitState (m .State)} (record { log = s .log; card = t }) (write-state (unit-card c m) s p (value w))
     write-done t a =
-        ap (λ y. record { log = s .log; card = y }) (a ∙ ap (write-state m (s .card) p) laid ∙ write-left m (s .card) p below (codeword c (value w)) fits) ∙
-        sym (write-left (unit-card c m) s p h (value w) b)
+        ap (λ y. record { log = s .log; card = y }) (a ∙ ap (write-state m (s .card) p) laid ∙ write-leads m (s .card) p below (codeword c (value w)) fits) ∙
+        sym (write-leads (unit-card c m) s p h (value w) b)
 
   -- an inject that found a raw word writes it back with the cell complemented
   module _ (x : ℕ) (i : x < c .n + c .k) (w y : Word) (e : Ok w ≡ read-answer m (s .card) p) (f : y ≡ of-value (toggled x (value w))) (t : m .State) (et : t ≡ read-state m (s .card) p) where
     after : t ≡ m .after-read (s .card) p
-    after = et ∙ read-left m (s .card) p below
+    after = et ∙ read-leads m (s .card) p below
 
     flipped : value y ≡ bitXor (value w) (2 ^ x)
     flipped =
@@ -114,12 +98,12 @@ module _ (c : CodeModel) (m : CardModel) (cl : CodeLaws c) (ml : CardLaws m) (s 
         ap (injecting c m s p x) (entry-read m (s .card) p below w e)
 
     pub inject-sound : (r : Result (Unit {0}) Fault) → r ≡ write-answer m t p (value y) → r ≡ injected c m s p x .answer
-    inject-sound r a = a ∙ write-answered m t p same-place (value y) flipped-fits ∙ sym (ap (λ o. o .answer) inject-is)
+    inject-sound r a = a ∙ write-granted m t p same-place (value y) flipped-fits ∙ sym (ap (λ o. o .answer) inject-is)
 
     pub inject-done : (u : m .State) → u ≡ write-state m t p (value y) → _≡_ {A = UnitState (m .State)} (record { log = s .log; card = u }) (injected c m s p x .state)
     inject-done u a =
         let card : u ≡ m .after-write (m .after-read (s .card) p) p (bitXor (value w) (2 ^ x)) =
-        a ∙ write-left m t p same-place (value y) flipped-fits ∙ ap (m .after-write t p) flipped ∙ ap (λ z. m .after-write z p (bitXor (value w) (2 ^ x))) after in
+        a ∙ write-leads m t p same-place (value y) flipped-fits ∙ ap (m .after-write t p) flipped ∙ ap (λ z. m .after-write z p (bitXor (value w) (2 ^ x))) after in
         ap (λ z. record { log = s .log; card = z }) card ∙ sym (ap (λ o. o .state) inject-is)
 
   -- a merge that keeps a lane, once the word w was read
@@ -131,10 +115,10 @@ module _ (c : CodeModel) (m : CardModel) (cl : CodeLaws c) (ml : CardLaws m) (s 
     old-is = entry-read (unit-card c m) s p h w r
 
     old-below : value w < 2 ^ c .n
-    old-below = subst (Within (c .n)) old-is (laws .within s p h)
+    old-below = read-within (unit-card c m) s p h laws w r
 
     after-reading : t ≡ unit-card c m .after-read s p
-    after-reading = et ∙ read-left (unit-card c m) s p h
+    after-reading = et ∙ read-leads (unit-card c m) s p h
 
     still-there : p < unit-card c m .count t
     still-there = subst (λ n. p < n) (sym (ap (unit-card c m .count) after-reading ∙ laws .read-count s p h)) h
@@ -158,18 +142,18 @@ module _ (c : CodeModel) (m : CardModel) (cl : CodeLaws c) (ml : CardLaws m) (s 
       fits-again = rw joined-is joined-fits
 
       pub merge-granted : write-answer (unit-card c m) t p (value x) ≡ Ok tt
-      merge-granted = write-answered (unit-card c m) t p still-there (value x) fits-again
+      merge-granted = write-granted (unit-card c m) t p still-there (value x) fits-again
 
       pub merge-done : (u : UnitState (m .State)) → u ≡ write-state (unit-card c m) t p (value x) → u ≡ kept c m s p v e .state
       merge-done u eu =
-          eu ∙ write-left (unit-card c m) t p still-there (value x) fits-again ∙
+          eu ∙ write-leads (unit-card c m) t p still-there (value x) fits-again ∙
           ap (unit-card c m .after-write t p) joined-is ∙
           ap (λ y. unit-card c m .after-write y p (joined (c .n / 8) e (value w) v)) after-reading ∙
           sym (ap (λ y. merging c m s p v e y .state) old-is)
 
     pub merge-sound : Ok (Some w) ≡ kept c m s p v e .answer
     merge-sound =
-        let same : Ok w ≡ Ok (of-value (value w)) = r ∙ read-answered (unit-card c m) s p h ∙ ap shown old-is in
+        let same : Ok w ≡ Ok (of-value (value w)) = r ∙ read-entered (unit-card c m) s p h ∙ ap shown old-is in
         let word : w ≡ of-value (value w) = cc in
         ap (λ y. Ok (Some y)) word ∙ sym (ap (λ y. merging c m s p v e y .answer) old-is)
 

@@ -1,8 +1,6 @@
 -- The kinds of errors that a log tells. Assumes nothing.
 use mathlib.Core.Bool.{Bool, true, false, cond}
 use Prim.Native.Nat.{ℕ}
-use Rattle.code.specs.declared.syndromes.Located.{Located}
-use Rattle.code.specs.declared.syndromes.Located.the-variants.{Clean, Data, Check, Two, Many}
 use Rattle.unit.specs.declared.records.Kind.{Kind}
 use Rattle.unit.specs.declared.records.Kind.the-variants.{Quiet, Damaged, Single}
 
@@ -16,14 +14,6 @@ abbrev pub kind-bits : Kind → ℕ
 kind-bits Quiet = 0
 kind-bits Damaged = 1
 kind-bits Single = 2
-
--- whether what was located cannot be put right
-abbrev pub is-damage : Located → Bool
-is-damage Clean = false
-is-damage (Data i) = false
-is-damage (Check j) = false
-is-damage Two = true
-is-damage Many = true
 
 -- the kind of an error
 abbrev pub kind-of : Bool → Kind

@@ -3,21 +3,20 @@ use mathlib.Core.Bool.{cond}
 use Prim.Native.Nat.{ℕ, _+_, _-_, _*_, _^_, _/_, _%_}
 use lib.Bits.{bitXor}
 use lib.Dec.{ltb, eqb}
+use Rattle.std.specs.Results.{isErr}
 use Rattle.std.specs.declared.result.Result.{Result}
 use Rattle.std.specs.declared.result.Result.the-variants.{Ok, Err}
 use Rattle.std.specs.declared.option.Option.{Option}
 use Rattle.std.specs.declared.option.Option.the-variants.{Some, None}
-use Rattle.word.specs.Words.{toggled, of-value}
+use Rattle.word.specs.Words.{of-value}
 use Rattle.word.specs.declared.words.Word.{Word}
 use Rattle.word.specs.Faults.{arisen, passed}
 use Rattle.word.specs.declared.faults.Fault.{Fault}
 use Rattle.word.specs.declared.refusals.Refusal.{Refusal}
-use Rattle.word.specs.declared.refusals.Refusal.the-variants.{Place as PLACE, Wide as WIDE, Enable as ENABLE, Cell as CELL, Two as TWO, Many as MANY}
-use Rattle.code.specs.Codes.{CodeModel, located, codeword, syndrome}
-use Rattle.code.specs.declared.syndromes.Located.{Located}
-use Rattle.code.specs.declared.syndromes.Located.the-variants.{Clean, Data, Check, Two, Many}
+use Rattle.word.specs.declared.refusals.Refusal.the-variants.{Place as PLACE, Wide as WIDE, Enable as ENABLE, Cell as CELL}
+use Rattle.code.specs.Codes.{CodeModel, codeword, syndrome}
+use Rattle.code.specs.Decoding.{decoded}
 use Rattle.card.specs.Cards.{CardModel, Entry, holds, faulty}
-use Rattle.unit.specs.Kinds.{is-damage}
 use Rattle.unit.specs.Logs.{LogState, log-of, new-log, noted}
 use Rattle.unit.specs.Merges.{joined}
 use Rattle.unit.specs.declared.records.RawWord.{RawWord}
@@ -27,22 +26,19 @@ use Rattle.unit.specs.declared.units.Unit.{Unit as UnitOf}
 abbrev pub cut : CodeModel → ℕ → RawWord
 cut c raw = record { «data» = raw % 2 ^ c .n; check = raw / 2 ^ c .n }
 
--- the data once the located cell is put right, or the refusal
-abbrev pub corrected : ℕ → ℕ → Located → Entry
-corrected p d Clean = holds d
-corrected p d (Data i) = holds (toggled i d)
-corrected p d (Check j) = holds d
-corrected p d Two = faulty (arisen TWO p)
-corrected p d Many = faulty (arisen MANY p)
+-- what was decoded, shown at p
+abbrev pub told : ℕ → Result ℕ Refusal → Entry
+told p (Ok d) = holds d
+told p (Err r) = faulty (arisen r p)
 
 -- what a unit shows at p where the card below shows this
-abbrev pub decoded : CodeModel → ℕ → Entry → Entry
-decoded c p (holds raw) = corrected p (raw % 2 ^ c .n) (located c (syndrome c raw))
-decoded c p (faulty f) = faulty (passed f)
+abbrev pub unit-entry : CodeModel → ℕ → Entry → Entry
+unit-entry c p (holds raw) = told p (decoded c raw)
+unit-entry c p (faulty f) = faulty (passed f)
 
 -- the log after a reading of p found this below: a raw word is recorded, a fault is not
 abbrev pub logged : CodeModel → ℕ → Entry → LogState → LogState
-logged c p (holds raw) l = noted p (cut c raw) (syndrome c raw) (is-damage (located c (syndrome c raw))) l
+logged c p (holds raw) l = noted p (cut c raw) (syndrome c raw) (isErr (decoded c raw)) l
 logged c p (faulty f) l = l
 
 pub record UnitState (S : Type 0) : Type 0 where
@@ -59,7 +55,7 @@ unit-card c m = record {
   State = UnitState (m .State);
   width = λ s. c .n;
   count = λ s. cond (eqb (m .width (s .card)) (c .n + c .k)) (m .count (s .card)) 0;
-  entry = λ s p. decoded c p (m .entry (s .card) p);
+  entry = λ s p. unit-entry c p (m .entry (s .card) p);
   after-read = λ s p. record { log = logged c p (m .entry (s .card) p) (s .log); card = m .after-read (s .card) p };
   after-write = λ s p v. record { log = s .log; card = m .after-write (s .card) p (codeword c v) };
 }

@@ -1,19 +1,17 @@
 // From raw words to data and back.
 ghost use mathlib.Core.Path.{_≡_};
 ghost use Prim.Native.Nat.{_+_, _^_, _<_};
-ghost use lib.Bits.{bitXor};
 ghost use Rattle.word.specs.Words.{value, of-value};
-ghost use Rattle.code.specs.Codes.{generated, codeword};
+ghost use Rattle.code.specs.Codes.{codeword};
 ghost use Rattle.card.specs.Cards.{holds, shown};
 ghost use Rattle.unit.specs.Logs.{log-of};
-ghost use Rattle.unit.specs.Units.{cut, corrected, decoded, logged};
-ghost use Rattle.unit.specs.Kinds.{is-damage};
+ghost use Rattle.unit.specs.Units.{cut, unit-entry, logged};
 use crate::logs::Log;
 use crate::records::RawWord;
 use code::Code;
-use code::Located;
+use code::correct;
+use code::syndrome_of;
 use word::Fault;
-use word::Refusal;
 use word::Word;
 
 // The raw word of some data with its check bits.
@@ -41,42 +39,18 @@ fn cut_raw<C: Code>(code: &C, raw: Word) -> RawWord
     }
 }
 
-// The data with the located cell put right, or a refusal.
-fn correct(place: u16, data: u64, located: Located) -> Result<Word, Fault>
-    ensures { λ r. ⌜ r ≡ shown (corrected place «data» located) ⌝ }
-{
-    let word = Word { low: data, top: 0 };
-    match located {
-        Located::Clean => Ok(word),
-        Located::Data(cell) => Ok(word.flip(cell)),
-        Located::Check(_) => Ok(word),
-        Located::Two => Err(Fault::arise(Refusal::Two, place)),
-        Located::Many => Err(Fault::arise(Refusal::Many, place)),
-    }
-}
-
-// Whether what was located cannot be put right.
-fn is_damage(located: Located) -> bool
-    ensures { λ r. ⌜ r ≡ is-damage located ⌝ }
-{
-    match located {
-        Located::Clean => false,
-        Located::Data(_) => false,
-        Located::Check(_) => false,
-        Located::Two => true,
-        Located::Many => true,
-    }
-}
-
 // Takes a raw word for a reading: records it, sound or not, and decodes it.
 pub(crate) fn take<C: Code>(code: &C, log: &mut Log, place: u16, raw: Word) -> Result<Word, Fault>
     requires { ⌜ value raw < 2 ^ (C·Code .code .n + C·Code .code .k) ⌝ }
-    ensures answer { λ r. ⌜ r ≡ shown (decoded (C·Code .code) place (holds (value raw))) ⌝ }
+    ensures answer { λ r. ⌜ r ≡ shown (unit-entry (C·Code .code) place (holds (value raw))) ⌝ }
     ensures after { λ _. ⌜ log-of (now (log .exit)) ≡ logged (C·Code .code) place (holds (value raw)) (log-of (now (log .entry))) ⌝ }
 {
     let parts = cut_raw(code, raw);
-    let syndrome = code.generate(parts.data) ^ parts.check;
-    let located = code.locate(syndrome);
-    log.note(place, parts, syndrome, is_damage(located));
-    correct(place, parts.data, located)
+    let syndrome = syndrome_of(code, parts.data, parts.check);
+    let decoded = correct(code, parts.data, syndrome);
+    log.note(place, parts, syndrome, decoded.is_err());
+    match decoded {
+        Ok(data) => Ok(Word { low: data, top: 0 }),
+        Err(refusal) => Err(Fault::arise(refusal, place)),
+    }
 }
