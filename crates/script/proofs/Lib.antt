@@ -5,3 +5,4 @@ pub mod OneText
 pub mod CommandTexts
 pub mod WriteFacts
 pub mod RunFacts
+pub mod FreshFacts

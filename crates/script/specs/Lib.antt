@@ -3,3 +3,4 @@ pub mod Texts
 pub mod Commands
 pub mod Written
 pub mod Scripts
+pub mod Sessions

@@ -40,8 +40,8 @@ module _ (c : CodeModel) (m : CardModel) (cl : CodeLaws c) (ml : CardLaws m) whe
     wide-most = λ s. let l = cl .n-most in omega arith;
     few = unit-few;
     within = λ s p h.
-      let f = fits-from-place c m s p h in
-      entry-within c cl p (m .entry (s .card) p) (subst (λ w. Within w (m .entry (s .card) p)) (f .0) (ml .within (s .card) p (f .1)));
+        let f = fits-from-place c m s p h in
+        entry-within c cl p (m .entry (s .card) p) (subst (λ w. Within w (m .entry (s .card) p)) (f .0) (ml .within (s .card) p (f .1)));
     read-width = λ s p h. refl;
     read-count = λ s p h. let q = fits-from-place c m s p h .1 in same-count s (unit-card c m .after-read s p) (ml .read-width (s .card) p q) (ml .read-count (s .card) p q);
     read-entry = λ s p q h k. ap (unit-entry c q) (ml .read-entry (s .card) p q (fits-from-place c m s p h .1) (fits-from-place c m s q k .1));
