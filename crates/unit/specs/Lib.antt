@@ -3,3 +3,5 @@ pub mod Logs
 pub mod Merges
 pub mod Units
 pub mod Steps
+pub mod Histories
+pub mod Promises
