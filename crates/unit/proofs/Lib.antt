@@ -5,3 +5,4 @@ pub mod MergeFacts
 pub mod Masks
 pub mod Pasts
 pub mod Effects
+pub mod Hands

@@ -38,17 +38,20 @@ turned n =
     (λ ne. eq-eqb _ 1 (omega arith) ∙ sym (ap not (ne-eqb (n % 2) 1 ne)))
     (cases-eq (n % 2) 1)
 
+-- a place in hand that was not written just now was in hand before
+pub hand-over : (cells : ℕ) (d : Made) (h : History) (p : ℕ) → (granted (d .answer) && writes p (d .call)) ≡ false → T (in-hand cells (d ∷ h) p) → T (in-hand cells h p)
+hand-over cells d h p w t =
+    true-holds _ (and-parts (in-hand cells h p) (ltb (upset-cells cells (d ∷ h) p) 3) (holds-true _ (subst T (cond-false _ _ _ w) t)) .0)
+
+pub few-upset : (cells : ℕ) (d : Made) (h : History) (p : ℕ) → (granted (d .answer) && writes p (d .call)) ≡ false → T (in-hand cells (d ∷ h) p) → upset-cells cells (d ∷ h) p < 3
+few-upset cells d h p w t =
+    ltb-true _ 3 (and-parts (in-hand cells h p) (ltb (upset-cells cells (d ∷ h) p) 3) (holds-true _ (subst T (cond-false _ _ _ w) t)) .1)
+
 module _ (cells lanes : ℕ) (d : Made) (h : History) (p : ℕ) where
   -- a call that neither stores nor hits here
   module _ (quiet : (granted (d .answer) && stores p (d .call)) ≡ false) where
     pub laid-kept : last-laid lanes (d ∷ h) p ≡ last-laid lanes h p
     laid-kept = cond-false _ _ _ quiet
-
-    -- nothing here was written, so the place was in hand before
-    pub hand-before : (granted (d .answer) && writes p (d .call)) ≡ false → T (in-hand cells (d ∷ h) p) → T (in-hand cells h p) × (upset-cells cells (d ∷ h) p < 3)
-    hand-before w t =
-        let both = and-parts (in-hand cells h p) (ltb (upset-cells cells (d ∷ h) p) 3) (holds-true _ (subst T (cond-false _ _ _ w) t)) in
-        (true-holds _ (both .0), ltb-true _ 3 (both .1))
 
     pub upset-kept : (x : ℕ) → (granted (d .answer) && hits p x (d .call)) ≡ false → upset (d ∷ h) p x ≡ upset h p x
     upset-kept x e = ap (λ n. eqb (n % 2) 1) (cond-false _ _ _ quiet ∙ cond-false _ _ _ e)
