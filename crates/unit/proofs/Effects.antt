@@ -61,9 +61,9 @@ module _ (c : CodeModel) (m : CardModel) where
   pub data Effect (t u : m .State) (d : Made) : Type 0 where
     idle : Same t u → ((p : ℕ) → (granted (d .answer) && stores p (d .call)) ≡ false) → ((p x : ℕ) → (granted (d .answer) && hits p x (d .call)) ≡ false) → Effect t u d
     stored : (q v : ℕ) → q < places t → v < 2 ^ c .n → Put q (codeword c v) t u → granted (d .answer) ≡ true → ((p : ℕ) → stores p (d .call) ≡ eqb p q) →
-      ((p x : ℕ) → hits p x (d .call) ≡ false) → Stores t (d .call) q v → Effect t u d
+        ((p x : ℕ) → hits p x (d .call) ≡ false) → Stores t (d .call) q v → Effect t u d
     flipped : (q x raw : ℕ) → x < c .n + c .k → m .entry t q ≡ holds raw → Put q (bitXor raw (2 ^ x)) t u → granted (d .answer) ≡ true →
-      ((p : ℕ) → stores p (d .call) ≡ false) → ((p y : ℕ) → hits p y (d .call) ≡ (eqb p q && eqb y x)) → Effect t u d
+        ((p : ℕ) → stores p (d .call) ≡ false) → ((p y : ℕ) → hits p y (d .call) ≡ (eqb p q && eqb y x)) → Effect t u d
 
 module _ (c : CodeModel) (m : CardModel) (cl : CodeLaws c) (ml : CardLaws m) where
   same-places : (t u : m .State) → m .width u ≡ m .width t → m .count u ≡ m .count t → places c m u ≡ places c m t
@@ -128,28 +128,37 @@ module _ (c : CodeModel) (m : CardModel) (cl : CodeLaws c) (ml : CardLaws m) whe
   harmless t u k a s st hi =
       idle s (λ p. ap (λ b. granted a && b) (st p) ∙ and-none (granted a)) (λ p x. ap (λ b. granted a && b) (hi p x) ∙ and-none (granted a))
 
+  -- the place that a merge reads
+  abbrev pub kept-place : m .State → ℕ → ℕ → ℕ → Option ℕ
+  kept-place t p v e = cond (ltb p (places c m t) && (ltb v (2 ^ c .n) && (ltb e (2 ^ (c .n / 8)) && not (eqb e 0)))) (Some p) None
+
   -- the arguments of a merge: refused, or whole, or with a lane kept
-  pub merge-ways : (s : UnitState (m .State)) (p v e : ℕ) (P : Outcome (m .State) (Result (Option Word) Fault) → Type 0) →
-      ((r : Refusal) → P (refused c m r p s)) →
-      (p < places c m (s .card) → v < 2 ^ c .n → e ≡ 0 → P (writing c m s p v)) →
-      (p < places c m (s .card) → v < 2 ^ c .n → e < 2 ^ (c .n / 8) → (e ≡ 0 → ⊥) → P (kept c m s p v e)) → P (merged c m s p v e)
+  pub merge-ways : (s : UnitState (m .State)) (p v e : ℕ) (P : Outcome (m .State) (Result (Option Word) Fault) → Option ℕ → Type 0) →
+      ((r : Refusal) → P (refused c m r p s) None) →
+      (p < places c m (s .card) → v < 2 ^ c .n → e ≡ 0 → P (writing c m s p v) None) →
+      (p < places c m (s .card) → v < 2 ^ c .n → e < 2 ^ (c .n / 8) → (e ≡ 0 → ⊥) → P (kept c m s p v e) (Some p)) → P (merged c m s p v e) (kept-place (s .card) p v e)
   merge-ways s p v e P bad all some =
-      cond-both (ltb p (places c m (s .card))) _ _ P
-      (λ a. cond-both (ltb v (2 ^ c .n)) _ _ P
-        (λ b. cond-both (ltb e (2 ^ (c .n / 8))) _ _ P
-          (λ d. cond-both (eqb e 0) _ _ P
-            (λ z. all (ltb-true _ _ a) (ltb-true _ _ b) (eqb-true e 0 z))
-            (λ z. some (ltb-true _ _ a) (ltb-true _ _ b) (ltb-true _ _ d) (eqb-false e 0 z)))
-          (λ _. bad ENABLE))
-        (λ _. bad WIDE))
-      (λ _. bad PLACE)
+      let t = ltb p (places c m (s .card)) in
+      let u = ltb v (2 ^ c .n) in
+      let w = ltb e (2 ^ (c .n / 8)) in
+      let z = eqb e 0 in
+      go t u w z (ltb-true p (places c m (s .card))) (ltb-true v (2 ^ c .n)) (ltb-true e (2 ^ (c .n / 8))) (eqb-true e 0) (eqb-false e 0)
+    where
+      go : (t u w z : Bool) → (t ≡ true → p < places c m (s .card)) → (u ≡ true → v < 2 ^ c .n) → (w ≡ true → e < 2 ^ (c .n / 8)) → (z ≡ true → e ≡ 0) → (z ≡ false → e ≡ 0 → ⊥) →
+          P (cond t (cond u (cond w (cond z (writing c m s p v) (kept c m s p v e)) (refused c m ENABLE p s)) (refused c m WIDE p s)) (refused c m PLACE p s))
+          (cond (t && (u && (w && not z))) (Some p) None)
+      go false u w z ft fu fw fz nz = bad PLACE
+      go true false w z ft fu fw fz nz = bad WIDE
+      go true true false z ft fu fw fz nz = bad ENABLE
+      go true true true true ft fu fw fz nz = all (ft refl) (fu refl) (fz refl)
+      go true true true false ft fu fw fz nz = some (ft refl) (fu refl) (fw refl) (nz refl)
 
   module _ (s : UnitState (m .State)) where
     read-effect : (p : ℕ) → Effect c m (s .card) (step c m s (Read p) .state .card) (as-made (Read p) (step c m s (Read p) .answer))
     read-effect p =
         harmless (s .card) (read-state (unit-card c m) s p .card) (Read p) (step c m s (Read p) .answer)
         (cond-both (ltb p (places c m (s .card))) _ _ (λ (y : UnitState (m .State)). Same c m (s .card) (y .card))
-          (λ h. read-same (s .card) p (ltb-true _ _ h)) (λ _. same-self (s .card)))
+        (λ h. read-same (s .card) p (ltb-true _ _ h)) (λ _. same-self (s .card)))
         (λ q. refl) (λ q x. refl)
 
     -- a whole word stored
@@ -164,19 +173,19 @@ module _ (c : CodeModel) (m : CardModel) (cl : CodeLaws c) (ml : CardLaws m) whe
         let v = value w in
         ⊎-elim
         (λ h. ⊎-elim
-          (λ b.
-            subst (λ (y : UnitState (m .State)). Effect c m (s .card) (y .card) (as-made (Write p w) (done-told (write-answer (unit-card c m) s p v)))) (sym (write-leads (unit-card c m) s p h v b))
-            (store-effect (Write p w) (done-told (write-answer (unit-card c m) s p v)) p v h b (ap (λ r. granted (done-told r)) (write-granted (unit-card c m) s p h v b)) (λ q. refl) (λ q x. refl) (λ q. refl) (λ old. refl)))
-          (λ b.
-            let inside = lt-ltb p (places c m (s .card)) h in
-            let wide = le-ltb v (2 ^ c .n) b in
-            subst (λ (y : UnitState (m .State)). Effect c m (s .card) (y .card) (as-made (Write p w) (done-told (write-answer (unit-card c m) s p v)))) (sym (cond-true _ _ _ inside ∙ cond-false _ _ _ wide))
-            (refused-idle (s .card) (s .card) (Write p w) _ (same-self (s .card)) (ap (λ r. granted (done-told r)) (cond-true _ _ _ inside ∙ cond-false _ _ _ wide))))
-          (cases-lt v (2 ^ c .n)))
+        (λ b.
+        subst (λ (y : UnitState (m .State)). Effect c m (s .card) (y .card) (as-made (Write p w) (done-told (write-answer (unit-card c m) s p v)))) (sym (write-leads (unit-card c m) s p h v b))
+        (store-effect (Write p w) (done-told (write-answer (unit-card c m) s p v)) p v h b (ap (λ r. granted (done-told r)) (write-granted (unit-card c m) s p h v b)) (λ q. refl) (λ q x. refl) (λ q. refl) (λ old. refl)))
+        (λ b.
+        let inside = lt-ltb p (places c m (s .card)) h in
+        let wide = le-ltb v (2 ^ c .n) b in
+        subst (λ (y : UnitState (m .State)). Effect c m (s .card) (y .card) (as-made (Write p w) (done-told (write-answer (unit-card c m) s p v)))) (sym (cond-true _ _ _ inside ∙ cond-false _ _ _ wide))
+        (refused-idle (s .card) (s .card) (Write p w) _ (same-self (s .card)) (ap (λ r. granted (done-told r)) (cond-true _ _ _ inside ∙ cond-false _ _ _ wide))))
+        (cases-lt v (2 ^ c .n)))
         (λ h.
-          let outside = le-ltb p (places c m (s .card)) h in
-          subst (λ (y : UnitState (m .State)). Effect c m (s .card) (y .card) (as-made (Write p w) (done-told (write-answer (unit-card c m) s p v)))) (sym (cond-false _ _ _ outside))
-          (refused-idle (s .card) (s .card) (Write p w) _ (same-self (s .card)) (ap (λ r. granted (done-told r)) (cond-false _ _ _ outside))))
+        let outside = le-ltb p (places c m (s .card)) h in
+        subst (λ (y : UnitState (m .State)). Effect c m (s .card) (y .card) (as-made (Write p w) (done-told (write-answer (unit-card c m) s p v)))) (sym (cond-false _ _ _ outside))
+        (refused-idle (s .card) (s .card) (Write p w) _ (same-self (s .card)) (ap (λ r. granted (done-told r)) (cond-false _ _ _ outside))))
         (cases-lt p (places c m (s .card)))
 
     -- a merge that keeps a lane, by the entry that its reading met
@@ -192,19 +201,19 @@ module _ (c : CodeModel) (m : CardModel) (cl : CodeLaws c) (ml : CardLaws m) whe
 
     merge-effect : (p : ℕ) (w : Word) (e : ℕ) → Effect c m (s .card) (step c m s (Merge p w e) .state .card) (as-made (Merge p w e) (step c m s (Merge p w e) .answer))
     merge-effect p w e =
-        merge-ways s p (value w) e (λ o. Effect c m (s .card) (o .state .card) (as-made (Merge p w e) (merge-told (o .answer))))
+        merge-ways s p (value w) e (λ o _. Effect c m (s .card) (o .state .card) (as-made (Merge p w e) (merge-told (o .answer))))
         (λ r. refused-idle (s .card) (s .card) (Merge p w e) _ (same-self (s .card)) refl)
         (λ h b z.
-          let none = eq-eqb e 0 z in
-          store-effect (Merge p w e) (merge-told (Ok None)) p (value w) h b refl (λ q. refl) (λ q x. refl)
-          (λ q. ap (λ t. eqb q p && t) none ∙ and-true (eqb q p))
-          (λ old. ap (λ t. joined (c .n / 8) t old (value w)) z ∙ joined-none (c .n / 8) old (value w) (subst (λ t. value w < 2 ^ t) (cl .whole-lanes) b)))
+        let none = eq-eqb e 0 z in
+        store-effect (Merge p w e) (merge-told (Ok None)) p (value w) h b refl (λ q. refl) (λ q x. refl)
+        (λ q. ap (λ t. eqb q p && t) none ∙ and-true (eqb q p))
+        (λ old. ap (λ t. joined (c .n / 8) t old (value w)) z ∙ joined-none (c .n / 8) old (value w) (subst (λ t. value w < 2 ^ t) (cl .whole-lanes) b)))
         (λ h b l nz.
-          keep-effect (Merge p w e) p (value w) e h (λ q. refl) (λ q x. refl) (λ q. ap (λ t. eqb q p && t) (ne-eqb e 0 nz) ∙ and-none (eqb q p)) (λ old _. refl)
-          (unit-card c m .entry s p) refl)
+        keep-effect (Merge p w e) p (value w) e h (λ q. refl) (λ q x. refl) (λ q. ap (λ t. eqb q p && t) (ne-eqb e 0 nz) ∙ and-none (eqb q p)) (λ old _. refl)
+        (unit-card c m .entry s p) refl)
 
     -- a word has a lane at least
-    lane-some : all-lanes c m ≡ 0 → ⊥
+    pub lane-some : all-lanes c m ≡ 0 → ⊥
     lane-some z =
         let n = cl .n-least in
         let lanes : 1 ≤ c .n / 8 = omega arith in
@@ -213,13 +222,13 @@ module _ (c : CodeModel) (m : CardModel) (cl : CodeLaws c) (ml : CardLaws m) whe
 
     scrub-effect : (p : ℕ) → Effect c m (s .card) (step c m s (Scrub p) .state .card) (as-made (Scrub p) (step c m s (Scrub p) .answer))
     scrub-effect p =
-        merge-ways s p 0 (all-lanes c m) (λ o. Effect c m (s .card) (o .state .card) (as-made (Scrub p) (merge-told (o .answer))))
+        merge-ways s p 0 (all-lanes c m) (λ o _. Effect c m (s .card) (o .state .card) (as-made (Scrub p) (merge-told (o .answer))))
         (λ r. refused-idle (s .card) (s .card) (Scrub p) _ (same-self (s .card)) refl)
         (λ h b z. absurd (lane-some z))
         (λ h b l nz.
-          keep-effect (Scrub p) p 0 (all-lanes c m) h (λ q. refl) (λ q x. refl) (λ q. refl)
-          (λ old lt. sym (joined-all (c .n / 8) old 0 (subst (λ t. old < 2 ^ t) (cl .whole-lanes) lt)))
-          (unit-card c m .entry s p) refl)
+        keep-effect (Scrub p) p 0 (all-lanes c m) h (λ q. refl) (λ q x. refl) (λ q. refl)
+        (λ old lt. sym (joined-all (c .n / 8) old 0 (subst (λ t. old < 2 ^ t) (cl .whole-lanes) lt)))
+        (unit-card c m .entry s p) refl)
 
     -- an inject, by the entry below
     flip-effect : (p x : ℕ) → p < places c m (s .card) → x < c .n + c .k → (y : Entry) → m .entry (s .card) p ≡ y →
@@ -235,8 +244,8 @@ module _ (c : CodeModel) (m : CardModel) (cl : CodeLaws c) (ml : CardLaws m) whe
         let P : Outcome (m .State) (Result (Unit {0}) Fault) → Type 0 = λ o. Effect c m (s .card) (o .state .card) (as-made (Inject p x) (done-told (o .answer))) in
         cond-both (ltb p (places c m (s .card))) _ _ P
         (λ h. cond-both (ltb x (c .n + c .k)) _ _ P
-          (λ l. flip-effect p x (ltb-true _ _ h) (ltb-true _ _ l) (m .entry (s .card) p) refl)
-          (λ _. refused-idle (s .card) (s .card) (Inject p x) _ (same-self (s .card)) refl))
+        (λ l. flip-effect p x (ltb-true _ _ h) (ltb-true _ _ l) (m .entry (s .card) p) refl)
+        (λ _. refused-idle (s .card) (s .card) (Inject p x) _ (same-self (s .card)) refl))
         (λ _. refused-idle (s .card) (s .card) (Inject p x) _ (same-self (s .card)) refl)
 
     pub effect : (k : Call) → Effect c m (s .card) (step c m s k .state .card) (record { call = k; answer = step c m s k .answer })

@@ -61,12 +61,12 @@ module _ (c : CodeModel) (m : CardModel) (cl : CodeLaws c) where
         let hand = hands p (hand-over (c .n + c .k) d h p w t′) in
         let laid = laid-kept (c .n + c .k) (c .n / 8) d h p quiet in
         let cells : mask (upset (d ∷ h) p) (c .n + c .k) ≡ mask (upset h p) (c .n + c .k) =
-          mask-same (upset h p) (upset (d ∷ h) p) (c .n + c .k) (λ x _. upset-kept (c .n + c .k) (c .n / 8) d h p quiet x (calm x)) in
+        mask-same (upset h p) (upset (d ∷ h) p) (c .n + c .k) (λ x _. upset-kept (c .n + c .k) (c .n / 8) d h p quiet x (calm x)) in
         record {
           there = subst (λ k. p < k) (sym n) (hand .there);
           word = subst (λ v. v < 2 ^ c .n) (sym laid) (hand .word);
           entry = e (hand .there) ∙ hand .entry ∙ ap (λ v. holds (bitXor (codeword c v) (mask (upset h p) (c .n + c .k)))) (sym laid) ∙
-            ap (λ k. holds (bitXor (codeword c (last-laid (c .n / 8) (d ∷ h) p)) k)) (sym cells);
+              ap (λ k. holds (bitXor (codeword c (last-laid (c .n / 8) (d ∷ h) p)) k)) (sym cells);
           few = few-upset (c .n + c .k) d h p w t′;
         }
 
@@ -89,7 +89,7 @@ module _ (c : CodeModel) (m : CardModel) (cl : CodeLaws c) where
           there = subst (λ k. q < k) (sym (put .count)) l;
           word = subst (λ k. k < 2 ^ c .n) (sym word) b;
           entry = put .here ∙ ap holds (ap (codeword c) (sym word) ∙ sym (xor-zero-r (codeword c (last-laid (c .n / 8) (d ∷ h) q))) ∙
-            ap (bitXor (codeword c (last-laid (c .n / 8) (d ∷ h) q))) (sym (mask-none (upset (d ∷ h) q) (c .n + c .k) zero-cells)));
+              ap (bitXor (codeword c (last-laid (c .n / 8) (d ∷ h) q))) (sym (mask-none (upset (d ∷ h) q) (c .n + c .k) zero-cells)));
           few = omega arith;
         }
 
@@ -103,14 +103,14 @@ module _ (c : CodeModel) (m : CardModel) (cl : CodeLaws c) where
         let same = sym is ∙ hand .entry in
         let raw-is : raw ≡ bitXor (codeword c word) (mask (upset h q) (c .n + c .k)) = cc in
         let turned : mask (upset (d ∷ h) q) (c .n + c .k) ≡ bitXor (mask (upset h q) (c .n + c .k)) (2 ^ x) =
-          mask-toggled (upset h q) (upset (d ∷ h) q) (c .n + c .k) x l
-          (upset-turned (c .n + c .k) (c .n / 8) d h q quiet x (hit x ∙ eq-eqb x x refl))
-          (λ y ne. upset-kept (c .n + c .k) (c .n / 8) d h q quiet y (hit y ∙ ne-eqb y x ne)) in
+        mask-toggled (upset h q) (upset (d ∷ h) q) (c .n + c .k) x l
+        (upset-turned (c .n + c .k) (c .n / 8) d h q quiet x (hit x ∙ eq-eqb x x refl))
+        (λ y ne. upset-kept (c .n + c .k) (c .n / 8) d h q quiet y (hit y ∙ ne-eqb y x ne)) in
         record {
           there = subst (λ k. q < k) (sym (put .count)) (hand .there);
           word = subst (λ v. v < 2 ^ c .n) (sym laid) (hand .word);
           entry = put .here ∙ ap (λ r. holds (bitXor r (2 ^ x))) raw-is ∙ ap holds (xor-assoc (codeword c word) (mask (upset h q) (c .n + c .k)) (2 ^ x)) ∙
-            ap (λ k. holds (bitXor (codeword c word) k)) (sym turned) ∙ ap (λ v. holds (bitXor (codeword c v) (mask (upset (d ∷ h) q) (c .n + c .k)))) (sym laid);
+              ap (λ k. holds (bitXor (codeword c word) k)) (sym turned) ∙ ap (λ v. holds (bitXor (codeword c v) (mask (upset (d ∷ h) q) (c .n + c .k)))) (sym laid);
           few = few-upset (c .n + c .k) d h q (not-written q quiet) t′;
         }
 
@@ -131,17 +131,17 @@ module _ (c : CodeModel) (m : CardModel) (cl : CodeLaws c) where
     hands-kept (stored q v l b put g st hi la) p =
         ⊎-elim
         (λ e. subst (λ r. T (in-hand (c .n + c .k) (d ∷ h) r) → Hand (d ∷ h) u r) (sym e)
-          (let loud = ap (λ x. x && stores q (d .call)) g ∙ st q ∙ eq-eqb q q refl in stored-hand q v l b put loud (laid-is q v la loud)))
+        (let loud = ap (λ x. x && stores q (d .call)) g ∙ st q ∙ eq-eqb q q refl in stored-hand q v l b put loud (laid-is q v la loud)))
         (λ ne.
-          let quiet = ap (λ x. x && stores p (d .call)) g ∙ st p ∙ ne-eqb p q ne in
-          kept-hand p (put .count) (λ l′. put .there p l′ ne) quiet (λ x. ap (λ y. y && hits p x (d .call)) g ∙ hi p x) (not-written p quiet))
+        let quiet = ap (λ x. x && stores p (d .call)) g ∙ st p ∙ ne-eqb p q ne in
+        kept-hand p (put .count) (λ l′. put .there p l′ ne) quiet (λ x. ap (λ y. y && hits p x (d .call)) g ∙ hi p x) (not-written p quiet))
         (cases-eq p q)
     hands-kept (flipped q x raw l is put g st hi) p =
         let quiet = λ (r : ℕ). ap (λ y. y && stores r (d .call)) g ∙ st r in
         ⊎-elim
         (λ e. subst (λ r. T (in-hand (c .n + c .k) (d ∷ h) r) → Hand (d ∷ h) u r) (sym e)
-          (flipped-hand q x raw l is put (quiet q) (λ y. ap (λ b. b && hits q y (d .call)) g ∙ hi q y ∙ ap (λ b. b && eqb y x) (eq-eqb q q refl))))
+        (flipped-hand q x raw l is put (quiet q) (λ y. ap (λ b. b && hits q y (d .call)) g ∙ hi q y ∙ ap (λ b. b && eqb y x) (eq-eqb q q refl))))
         (λ ne.
-          kept-hand p (put .count) (λ l′. put .there p l′ ne) (quiet p)
-          (λ y. ap (λ b. b && hits p y (d .call)) g ∙ hi p y ∙ ap (λ b. b && eqb y x) (ne-eqb p q ne)) (not-written p (quiet p)))
+        kept-hand p (put .count) (λ l′. put .there p l′ ne) (quiet p)
+        (λ y. ap (λ b. b && hits p y (d .call)) g ∙ hi p y ∙ ap (λ b. b && eqb y x) (ne-eqb p q ne)) (not-written p (quiet p)))
         (cases-eq p q)

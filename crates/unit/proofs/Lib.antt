@@ -6,3 +6,7 @@ pub mod Masks
 pub mod Pasts
 pub mod Effects
 pub mod Hands
+pub mod LogSteps
+pub mod Keeping
+pub mod Owing
+pub mod RunSteps

@@ -51,8 +51,8 @@ module _ (f : ℕ → Bool) where
   mask-one (suc w) o =
       ⊎-elim
       (λ e.
-        let c = count-passed w e in
-        (w, omega arith, mask-passed w e ∙ ap (λ m. bitXor m (2 ^ w)) (mask-none w (omega arith))))
+      let c = count-passed w e in
+      (w, omega arith, mask-passed w e ∙ ap (λ m. bitXor m (2 ^ w)) (mask-none w (omega arith))))
       (λ e. let r = mask-one w (sym (count-failed w e) ∙ o) in let b = r .1 in (r .0, omega arith, mask-failed w e ∙ r .2))
       (cases-bool (f w))
 
@@ -61,9 +61,9 @@ module _ (f : ℕ → Bool) where
   mask-two (suc w) o =
       ⊎-elim
       (λ e.
-        let c = count-passed w e in
-        let r = mask-one w (omega arith) in
-        (r .0, w, r .1, omega arith, mask-passed w e ∙ ap (λ m. bitXor m (2 ^ w)) (r .2)))
+      let c = count-passed w e in
+      let r = mask-one w (omega arith) in
+      (r .0, w, r .1, omega arith, mask-passed w e ∙ ap (λ m. bitXor m (2 ^ w)) (r .2)))
       (λ e. let r = mask-two w (sym (count-failed w e) ∙ o) in let b = r .3 in (r .0, r .1, r .2, omega arith, mask-failed w e ∙ r .4))
       (cases-bool (f w))
 
@@ -84,17 +84,17 @@ module _ (f g : ℕ → Bool) where
   mask-toggled (suc w) x h t s =
       ⊎-elim
       (λ e.
-        let below : mask g w ≡ mask f w = mask-same w (λ y b. s y (λ q. omega arith)) in
-        let here : g w ≡ not (f w) = subst (λ y. g y ≡ not (f y)) e t in
-        ⊎-elim
-        (λ p. mask-failed g w (here ∙ not-from-true (f w) p) ∙ below ∙ sym (xor-twice (mask f w) (2 ^ w)) ∙ ap (λ m. bitXor m (2 ^ w)) (sym (mask-passed f w p)) ∙ ap (λ y. bitXor (mask f (suc w)) (2 ^ y)) (sym e))
-        (λ p. mask-passed g w (here ∙ not-from-false (f w) p) ∙ ap (λ m. bitXor m (2 ^ w)) (below ∙ sym (mask-failed f w p)) ∙ ap (λ y. bitXor (mask f (suc w)) (2 ^ y)) (sym e))
-        (cases-bool (f w)))
+      let below : mask g w ≡ mask f w = mask-same w (λ y b. s y (λ q. omega arith)) in
+      let here : g w ≡ not (f w) = subst (λ y. g y ≡ not (f y)) e t in
+      ⊎-elim
+      (λ p. mask-failed g w (here ∙ not-from-true (f w) p) ∙ below ∙ sym (xor-twice (mask f w) (2 ^ w)) ∙ ap (λ m. bitXor m (2 ^ w)) (sym (mask-passed f w p)) ∙ ap (λ y. bitXor (mask f (suc w)) (2 ^ y)) (sym e))
+      (λ p. mask-passed g w (here ∙ not-from-false (f w) p) ∙ ap (λ m. bitXor m (2 ^ w)) (below ∙ sym (mask-failed f w p)) ∙ ap (λ y. bitXor (mask f (suc w)) (2 ^ y)) (sym e))
+      (cases-bool (f w)))
       (λ ne.
-        let below = mask-toggled w x (omega arith) t s in
-        let last = cond (f w) (2 ^ w) 0 in
-        ap (λ b. bitXor (mask g w) (cond b (2 ^ w) 0)) (s w (λ q. ne (sym q))) ∙ ap (λ m. bitXor m last) below ∙
-        xor-assoc (mask f w) (2 ^ x) last ∙ ap (bitXor (mask f w)) (xor-comm (2 ^ x) last) ∙ sym (xor-assoc (mask f w) last (2 ^ x)))
+      let below = mask-toggled w x (omega arith) t s in
+      let last = cond (f w) (2 ^ w) 0 in
+      ap (λ b. bitXor (mask g w) (cond b (2 ^ w) 0)) (s w (λ q. ne (sym q))) ∙ ap (λ m. bitXor m last) below ∙
+      xor-assoc (mask f w) (2 ^ x) last ∙ ap (bitXor (mask f w)) (xor-comm (2 ^ x) last) ∙ sym (xor-assoc (mask f w) last (2 ^ x)))
       (cases-eq x w)
 
 module _ (c : CodeModel) (laws : CodeLaws c) (f : ℕ → Bool) (d : ℕ) (b : d < 2 ^ c .n) where
@@ -121,9 +121,9 @@ module _ (c : CodeModel) (laws : CodeLaws c) (f : ℕ → Bool) (d : ℕ) (b : d
   struck-read p h =
       ap (told p)
       (⊎-elim
-        (λ z. ap (decoded c) (struck-none z) ∙ decoded-codeword c laws d b)
-        (λ nz. let r = struck-one (omega arith) in ap (decoded c) (r .2) ∙ single-corrected c laws d (r .0) b (r .1))
-        (cases-eq (number-of f (c .n + c .k)) 0))
+      (λ z. ap (decoded c) (struck-none z) ∙ decoded-codeword c laws d b)
+      (λ nz. let r = struck-one (omega arith) in ap (decoded c) (r .2) ∙ single-corrected c laws d (r .0) b (r .1))
+      (cases-eq (number-of f (c .n + c .k)) 0))
 
   -- with two it is a double error
   pub struck-refused : (p : ℕ) → number-of f (c .n + c .k) ≡ 2 → unit-entry c p (holds struck) ≡ faulty (arisen TWO p)
@@ -142,12 +142,12 @@ module _ (c : CodeModel) (laws : CodeLaws c) (f : ℕ → Bool) (d : ℕ) (b : d
       ⊎-elim
       (λ z. eq-eqb _ 0 (ap (syndrome c) (struck-none z) ∙ codeword-clean c laws d b) ∙ sym (eq-eqb _ 0 z))
       (λ nz.
-        ne-eqb _ 0
-        (⊎-elim
-          (λ o e. let r = struck-one o in column-not-zero (r .0) (r .1) (sym (single-syndrome c laws d (r .0) b (r .1)) ∙ ap (syndrome c) (sym (r .2)) ∙ e))
-          (λ no e.
-            let r = struck-two (omega arith) in
-            let both = sym (double-syndrome c laws d (r .0) (r .1) b (r .2) (r .3)) ∙ ap (syndrome c) (sym (r .5)) ∙ e in
-            r .4 (cell-apart c laws (r .0) (r .1) (r .2) (r .3) (same-from-xor _ _ both)))
-          (cases-eq (number-of f (c .n + c .k)) 1)) ∙ sym (ne-eqb _ 0 nz))
+      ne-eqb _ 0
+      (⊎-elim
+      (λ o e. let r = struck-one o in column-not-zero (r .0) (r .1) (sym (single-syndrome c laws d (r .0) b (r .1)) ∙ ap (syndrome c) (sym (r .2)) ∙ e))
+      (λ no e.
+      let r = struck-two (omega arith) in
+      let both = sym (double-syndrome c laws d (r .0) (r .1) b (r .2) (r .3)) ∙ ap (syndrome c) (sym (r .5)) ∙ e in
+      r .4 (cell-apart c laws (r .0) (r .1) (r .2) (r .3) (same-from-xor _ _ both)))
+      (cases-eq (number-of f (c .n + c .k)) 1)) ∙ sym (ne-eqb _ 0 nz))
       (cases-eq (number-of f (c .n + c .k)) 0)

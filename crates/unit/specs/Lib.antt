@@ -5,3 +5,5 @@ pub mod Units
 pub mod Steps
 pub mod Histories
 pub mod Promises
+pub mod Stacks
+pub mod Runs

@@ -4,6 +4,7 @@ mod decoding;
 mod logs;
 mod merging;
 mod records;
+mod runs;
 mod units;
 
 pub use calls::Answer;
@@ -12,5 +13,7 @@ pub use logs::Log;
 pub use records::FirstError;
 pub use records::Kind;
 pub use records::RawWord;
+pub use runs::Ran;
+pub use runs::run_calls;
 pub use units::Unit;
 pub use units::UnitIsCard;
