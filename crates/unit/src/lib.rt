@@ -5,6 +5,7 @@ mod logs;
 mod merging;
 mod records;
 mod runs;
+mod stacks;
 mod units;
 
 pub use calls::Answer;
@@ -15,5 +16,6 @@ pub use records::Kind;
 pub use records::RawWord;
 pub use runs::Ran;
 pub use runs::run_calls;
+pub use stacks::layer_kinds;
 pub use units::Unit;
 pub use units::UnitIsCard;
