@@ -6,3 +6,4 @@ pub mod CommandTexts
 pub mod WriteFacts
 pub mod RunFacts
 pub mod FreshFacts
+pub mod GoingOn

@@ -4,7 +4,7 @@ use mathlib.Core.List.{List, [], _∷_, _++_}
 use mathlib.Core.Bool.{Bool, true, false, cond}
 use Prim.Native.Nat.{ℕ, suc, _+_, _-_, _<_, _≤_}
 use lib.Dec.{eqb}
-use lib.ListN.{length}
+use lib.ListN.{length, take}
 use Rattle.std.specs.declared.option.Option.{Option}
 use Rattle.std.specs.declared.option.Option.the-variants.{Some, None}
 use Rattle.word.specs.Faults.{arisen}
@@ -13,6 +13,8 @@ use Rattle.code.specs.Codes.{CodeModel}
 use Rattle.card.specs.Cards.{CardModel}
 use Rattle.unit.specs.Units.{UnitState, Outcome}
 use Rattle.unit.specs.Steps.{step}
+use Rattle.unit.specs.Histories.{past}
+use Rattle.unit.specs.Runs.{new-unit, answers, final, Kept}
 use Rattle.unit.specs.declared.calls.Call.{Call}
 use Rattle.unit.specs.declared.calls.Answer.{Answer}
 use Rattle.unit.specs.declared.calls.Answer.the-variants.{Refused}
@@ -66,3 +68,17 @@ module _ (c : CodeModel) (m : CardModel) where
     line : {s : UnitState (m .State)} {room : ℕ} {l : Line} {ls : List Line} {e : End} (a : Option Call) → 32 ≤ room → Asked l a →
         Ran (reply s a .state) (room - length (answer-text (reply s a .answer))) ls e →
         Ran s room (l ∷ ls) (after (answer-text (reply s a .answer)) 1 e)
+
+-- the calls that some lines ask for, in their order
+pub data Calls-of : List Line → List Call → Type 0 where
+  none : Calls-of [] []
+  silent : {l : Line} {ls : List Line} {ks : List Call} → Asked l None → Calls-of ls ks → Calls-of (l ∷ ls) ks
+  asks : {l : Line} {ls : List Line} {ks : List Call} (k : Call) → Asked l (Some k) → Calls-of ls ks → Calls-of (l ∷ ls) (k ∷ ks)
+
+-- The calls of a script go on from the calls before it: if those led a new unit to where the script began, then these lead it to where
+-- the script ended, after so many lines, and the promise over runs holds of them all.
+pub record Goes-on (c : CodeModel) (m : CardModel) (script : List Line) (count : ℕ) (t : m .State) (before : List Call) (s : UnitState (m .State)) : Type 0 where
+  pub calls : List Call
+  pub asked : Calls-of (take count script) calls
+  pub state : s ≡ final c m (new-unit c m t) (before ++ calls)
+  pub kept : Kept c m (past [] (before ++ calls) (answers c m (new-unit c m t) (before ++ calls))) s

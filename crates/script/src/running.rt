@@ -2,8 +2,11 @@
 ghost use mathlib.Core.Path.{_≡_};
 ghost use Prim.Native.Nat.{ℕ, _<_, _≤_};
 ghost use lib.ListN.{length, getD, take, drop};
+ghost use mathlib.Core.List.{List};
 ghost use Rattle.unit.specs.Units.{state-of};
-ghost use Rattle.script.specs.Scripts.{Line, Asked, lines as cut-lines, reply as replied, Ran};
+ghost use Rattle.unit.specs.Runs.{new-unit, final};
+ghost use Rattle.unit.specs.declared.calls.Call.{Call as Called};
+ghost use Rattle.script.specs.Scripts.{Line, Asked, lines as cut-lines, reply as replied, Ran, Goes-on};
 use crate::parsing::parse;
 use crate::printing::print;
 use card::Card;
@@ -60,6 +63,7 @@ fn answer_to<C: Code, D: Card>(unit: &mut Unit<C, D>, call: Option<Call>) -> Ans
 // Runs a script on a unit, and writes the answers, a line each, into the output.
 pub fn run<C: Code, D: Card>(unit: &mut Unit<C, D>, script: &[u8], out: &mut [u8]) -> Report
     ensures ran { λ r. ⌜ Ran (C·Code .code) (D·Card .model) (state-of (D·Card .state) (now (unit .entry))) (length (now (out .entry))) (cut-lines (now (script .entry))) (record { state = state-of (D·Card .state) (now (unit .exit)); text = take (r .written) (now (out .exit)); count = r .lines; stopped = r .stopped }) ⌝ }
+    ensures promise { λ r. ⌜ ((t : D·Card .model .State) (before : List Called) → state-of (D·Card .state) (now (unit .entry)) ≡ final (C·Code .code) (D·Card .model) (new-unit (C·Code .code) (D·Card .model) t) before → Goes-on (C·Code .code) (D·Card .model) (cut-lines (now (script .entry))) (r .lines) t before (state-of (D·Card .state) (now (unit .exit)))) ⌝ }
     ensures within { λ r. ⌜ r .written ≤ length (now (out .entry)) ⌝ }
     ensures rest { λ r. ⌜ drop (r .written) (now (out .exit)) ≡ drop (r .written) (now (out .entry)) ⌝ }
 {

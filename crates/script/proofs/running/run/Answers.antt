@@ -8,6 +8,7 @@ use Rattle.unit.specs.Units.{state-of}
 use Rattle.script.specs.Scripts.{lines}
 use Rattle.script.specs.Texts.{answer-text}
 use Rattle.script.proofs.WriteFacts.{wrote-as, text-short}
+use Rattle.script.proofs.GoingOn.{goes-on}
 use Rattle.script.proofs.RunFacts.{lines-some, run-done, run-stopped, run-again, behind-kept}
 use Rattle.script.proofs.running.run.Needs as need
 
@@ -17,8 +18,10 @@ returns-then-out-at-lt32 g c =
     let xs = drop (l .from) (c .args .script .now) in
     let some : 0 < length xs = rw (length-drop (l .from) (c .args .script .now)) (omega arith) in
     let first = lines-some xs some in
+    let ran = run-stopped (g .C·Code .code) (g .D·Card .model) (state-of (g .D·Card .state) (c .args .unit .now)) (length (c .args .out .now)) (lines (c .args .script .now)) (state-of (g .D·Card .state) (l .unit)) (length (l .out) - l .at) xs (take (l .at) (l .out)) (l .lines) (l .inv .5) (first .0) (first .1) (first .2) (c .if-out-at-lt32 .taken) in
     record {
-      ran = run-stopped (g .C·Code .code) (g .D·Card .model) (state-of (g .D·Card .state) (c .args .unit .now)) (length (c .args .out .now)) (lines (c .args .script .now)) (state-of (g .D·Card .state) (l .unit)) (length (l .out) - l .at) xs (take (l .at) (l .out)) (l .lines) (l .inv .5) (first .0) (first .1) (first .2) (c .if-out-at-lt32 .taken);
+      ran = ran;
+      promise = goes-on (g .C·Code .code) (g .D·Card .model) (g .C·Code·met .lawful) (g .D·Card·met .laws) _ _ _ _ _ _ ran refl refl;
       within = omega arith;
       rest = l .inv .4;
     }
@@ -46,8 +49,10 @@ returns g c =
     let l = c .loop-from in
     let xs = drop (l .from) (c .args .script .now) in
     let none : length xs ≡ 0 = length-drop (l .from) (c .args .script .now) ∙ omega arith in
+    let ran = run-done (g .C·Code .code) (g .D·Card .model) (state-of (g .D·Card .state) (c .args .unit .now)) (length (c .args .out .now)) (lines (c .args .script .now)) (state-of (g .D·Card .state) (l .unit)) (length (l .out) - l .at) xs (take (l .at) (l .out)) (l .lines) (l .inv .5) none in
     record {
-      ran = run-done (g .C·Code .code) (g .D·Card .model) (state-of (g .D·Card .state) (c .args .unit .now)) (length (c .args .out .now)) (lines (c .args .script .now)) (state-of (g .D·Card .state) (l .unit)) (length (l .out) - l .at) xs (take (l .at) (l .out)) (l .lines) (l .inv .5) none;
+      ran = ran;
+      promise = goes-on (g .C·Code .code) (g .D·Card .model) (g .C·Code·met .lawful) (g .D·Card·met .laws) _ _ _ _ _ _ ran refl refl;
       within = omega arith;
       rest = l .inv .4;
     }
