@@ -2,8 +2,12 @@
 ghost use mathlib.Core.Path.{_≡_};
 ghost use mathlib.Core.List.{List};
 ghost use Prim.Native.Nat.{ℕ, _+_};
+ghost use lib.Bits.{bitXor};
 ghost use Rattle.code.specs.Codes.{CodeModel, CodeLaws, generated, located};
+ghost use Rattle.code.specs.Decoding.{decoded-parts};
+use crate::decoding::correct;
 use crate::syndromes::Located;
+use word::Refusal;
 
 // A code of n data cells and k check cells. Its check bits are z xor the columns of the set data cells.
 pub trait Code {
@@ -47,4 +51,18 @@ pub trait Code {
     // The partial check bits that a cascaded code shows in the log; 0 in every other.
     fn partial(&self, data: u64) -> u8
         ensures { λ r. ⌜ r ≡ code .partial «data» ⌝ };
+
+    // What the check bits differ in from those that the data generate.
+    fn syndrome(&self, data: u64, check: u8) -> u8
+        ensures { λ r. ⌜ r ≡ bitXor (generated code «data») check ⌝ }
+    {
+        self.generate(data) ^ check
+    }
+
+    // The data with a single wrong cell put right, or a refusal.
+    fn decode(&self, data: u64, check: u8) -> Result<u64, Refusal>
+        ensures { λ r. ⌜ r ≡ decoded-parts code «data» check ⌝ }
+    {
+        correct(data, self.locate(self.syndrome(data, check)))
+    }
 }

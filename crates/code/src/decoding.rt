@@ -1,29 +1,12 @@
-// Raw words decoded.
+// A located cell put right.
 ghost use mathlib.Core.Path.{_≡_};
 ghost use Prim.Native.Nat.{ℕ, _<_};
-ghost use lib.Bits.{bitXor};
-ghost use Rattle.code.specs.Codes.{generated};
-ghost use Rattle.code.specs.Decoding.{corrected, decoded-parts};
-use crate::codes::Code;
+ghost use Rattle.code.specs.Decoding.{corrected};
 use crate::syndromes::Located;
 use word::Refusal;
 
-// What the check bits differ in from those that the data generate.
-pub fn syndrome_of<C: Code>(code: &C, data: u64, check: u8) -> u8
-    ensures { λ r. ⌜ r ≡ bitXor (generated (C·Code .code) «data») check ⌝ }
-{
-    code.generate(data) ^ check
-}
-
-// The data with a single wrong cell put right, or a refusal.
-pub fn decode<C: Code>(code: &C, data: u64, check: u8) -> Result<u64, Refusal>
-    ensures { λ r. ⌜ r ≡ decoded-parts (C·Code .code) «data» check ⌝ }
-{
-    correct(data, code.locate(syndrome_of(code, data, check)))
-}
-
 // The data with the located cell complemented, or a refusal.
-fn correct(data: u64, located: Located) -> Result<u64, Refusal>
+pub(crate) fn correct(data: u64, located: Located) -> Result<u64, Refusal>
     requires { ⌜ ((i : ℕ) → located ≡ Located.Data i → i < 64) ⌝ }
     ensures { λ r. ⌜ r ≡ corrected «data» located ⌝ }
 {

@@ -22,8 +22,6 @@ pub use code32::Code32Code;
 pub use code64::Code64;
 pub use code64::Code64Code;
 pub use codes::Code;
-pub use decoding::decode;
-pub use decoding::syndrome_of;
 pub use promises::clean_syndrome;
 pub use promises::correctable;
 pub use promises::detectable;

@@ -1,10 +1,10 @@
 use mathlib.Core.Path.{sym, _∙_}
 use native.Mathlib.Omega.{arith}
 use Rattle.code.proofs.Distances.{located-data}
-use Rattle.code.proofs.decoding.decode.Needs as need
+use Rattle.code.proofs.codes.Code.decode.Needs as need
 
 pub correct-requires : need.correct-requires
 correct-requires g c κs i e =
-    let laws = g .C·Code·met .lawful in
+    let laws = g .Self·Code·met .lawful in
     let low = located-data _ laws _ i (sym (c .locate .ensures) ∙ e) in
     omega (arith, laws .n-most)
