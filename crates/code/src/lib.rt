@@ -27,4 +27,6 @@ pub use promises::correctable;
 pub use promises::detectable;
 pub use promises::slice_width;
 pub use syndromes::Located;
+pub use syndromes::LocatedDebug;
+pub use syndromes::LocatedPartialEq;
 pub use worked::worked_values;
