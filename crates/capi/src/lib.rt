@@ -7,6 +7,7 @@ ghost use Rattle.capi.specs.Handing.{status, handed};
 use code::Code;
 use code::Code64;
 use code::Code64Code;
+use code::decode;
 
 // The check bits of a data word.
 #[unsafe(no_mangle)]
@@ -22,7 +23,7 @@ pub extern "C" fn edc_decode64(data: &mut u64, check: u8) -> u8
     ensures answer { λ r. ⌜ r ≡ status (decoded-parts code64 (now («data» .entry)) check) ⌝ }
     ensures after { λ _. ⌜ now («data» .exit) ≡ handed (now («data» .entry)) (decoded-parts code64 (now («data» .entry)) check) ⌝ }
 {
-    match Code64.decode(*data, check) {
+    match decode(&Code64, *data, check) {
         Ok(word) => {
             *data = word;
             0

@@ -48,8 +48,7 @@ pub impl Code for Code64 as Code64Code {
         0x00
     }
 
-    fn decode(&self, data: u64, check: u8) -> Result<u64, Refusal> {
-        let syndrome = self.syndrome(data, check);
+    fn correct(&self, data: u64, syndrome: u8) -> Result<u64, Refusal> {
         follow(data, marks()[syndrome as usize])
     }
 }

@@ -2,10 +2,9 @@
 ghost use mathlib.Core.Path.{_≡_};
 ghost use Prim.Native.Nat.{ℕ, _+_};
 ghost use mathlib.Core.List.{List};
-ghost use lib.Bits.{bitXor};
 ghost use Rattle.code.specs.Codes.{CodeModel, CodeLaws, generated, located};
-ghost use Rattle.code.specs.Decoding.{decoded-parts};
-use crate::decoding::correct;
+ghost use Rattle.code.specs.Decoding.{corrected};
+use crate::decoding::put_right;
 use crate::syndromes::Located;
 use word::Refusal;
 
@@ -52,17 +51,10 @@ pub trait Code {
     fn partial(&self, data: u64) -> u8
         ensures { λ r. ⌜ r ≡ code .partial «data» ⌝ };
 
-    // What the check bits differ in from those that the data generate.
-    fn syndrome(&self, data: u64, check: u8) -> u8
-        ensures { λ r. ⌜ r ≡ bitXor (generated code «data») check ⌝ }
+    // The data of a raw word that has this syndrome, with a single wrong cell put right, or a refusal.
+    fn correct(&self, data: u64, syndrome: u8) -> Result<u64, Refusal>
+        ensures { λ r. ⌜ r ≡ corrected «data» (located code syndrome) ⌝ }
     {
-        self.generate(data) ^ check
-    }
-
-    // The data with a single wrong cell put right, or a refusal.
-    fn decode(&self, data: u64, check: u8) -> Result<u64, Refusal>
-        ensures { λ r. ⌜ r ≡ decoded-parts code «data» check ⌝ }
-    {
-        correct(data, self.locate(self.syndrome(data, check)))
+        put_right(data, self.locate(syndrome))
     }
 }

@@ -1,1 +1,3 @@
 pub mod Values
+pub mod LaneFacts
+pub mod FaultFacts

@@ -106,3 +106,7 @@ join-held l h w =
     let flat : (l + h * 2 ^ min w 72) % 2 ^ 72 ≡ (l + h * 2 ^ 72) % 2 ^ 72 = ap (λ m. (l + h * 2 ^ m) % 2 ^ 72) (e .0) in
     flat ∙ omega arith)
     (held w)
+
+-- a number is told back by its word
+pub value-of-value : (v : ℕ) → value (of-value v) ≡ v
+value-of-value v = omega arith

@@ -1,0 +1,6 @@
+pub mod Cards
+pub mod Widths
+pub mod Builtin
+pub mod Buffers
+pub mod Pairs
+pub mod Parities

@@ -1,0 +1,244 @@
+// Prints what cards answer: a read word in hexadecimal after `=`, a granted write as `ok`, a refusal after `!` with number, place, depth and way.
+mod worn;
+
+use card::ByteCard;
+use card::ByteIsCard;
+use card::Card;
+use card::PairCard;
+use card::PairIsCard;
+use std::error::AnyError;
+use std::io;
+use word::Fault;
+use word::Refusal;
+use word::Side;
+use word::Word;
+use worn::WornCard;
+use worn::WornIsCard;
+
+fn tell_fault(rt: &impl Print, fault: Fault) -> io::Result<()> {
+    let number = fault.refusal.number();
+    let place = fault.place;
+    let depth = fault.depth;
+    let way = fault.way;
+    println!(rt, "! {number} {place:04x} {depth:02x} {way:04x}")
+}
+
+fn tell_read<C: Card>(rt: &impl Print, card: &mut C, place: u16) -> io::Result<()> {
+    match card.read(place) {
+        Ok(word) => {
+            let number = word.number();
+            println!(rt, "= {number:018x}")
+        }
+        Err(fault) => tell_fault(rt, fault),
+    }
+}
+
+fn tell_write<C: Card>(rt: &impl Print, card: &mut C, place: u16, word: Word) -> io::Result<()> {
+    match card.write(place, word) {
+        Ok(()) => println!(rt, "ok"),
+        Err(fault) => tell_fault(rt, fault),
+    }
+}
+
+fn tell_size<C: Card>(rt: &impl Print, card: &C) -> io::Result<()> {
+    let width = card.width();
+    let count = card.count();
+    println!(rt, "width {width} count {count}")
+}
+
+fn tell_bytes(rt: &impl Print, bytes: &[u8]) -> io::Result<()> {
+    print!(rt, "bytes")?;
+    for byte in bytes {
+        print!(rt, " {byte:02x}")?;
+    }
+    println!(rt, "")
+}
+
+// Nine bytes a word, what is left over uncounted, and never more than 65,536 words.
+fn buffers(rt: &LibcRuntime) -> Result<(), AnyError> {
+    println!(rt, "buffers of 0, 8, 9, 17 and 18 bytes, and of 590,000")?;
+    for length in [0, 8, 9, 17, 18, 590_000] {
+        let mut bytes = vec![in rt.alloc(); 0u8; length]?;
+        tell_size(rt, &ByteCard::new(72, bytes.as_mut_slice()))?;
+    }
+    println!(rt, "widths 0, 1, 72 and 73")?;
+    for width in [0, 1, 72, 73] {
+        let mut bytes = [0u8; 18];
+        tell_size(rt, &ByteCard::new(width, &mut bytes))?;
+    }
+    Ok(())
+}
+
+// Two words of 20 cells in 20 bytes of aa.
+fn layout(rt: &LibcRuntime) -> io::Result<()> {
+    println!(rt, "20 bytes of aa as a card of width 20")?;
+    let mut bytes = [0xaau8; 20];
+    let mut card = ByteCard::new(20, &mut bytes);
+    tell_read(rt, &mut card, 1)?;
+    tell_write(
+        rt,
+        &mut card,
+        1,
+        Word {
+            low: 0x54321,
+            top: 0,
+        },
+    )?;
+    tell_read(rt, &mut card, 1)?;
+    tell_write(
+        rt,
+        &mut card,
+        1,
+        Word {
+            low: 0x10_0000,
+            top: 0,
+        },
+    )?;
+    tell_write(rt, &mut card, 2, Word::ZERO)?;
+    tell_read(rt, &mut card, 2)?;
+    tell_bytes(rt, &bytes)
+}
+
+// A card that is faulty, or one that holds a byte.
+fn faulty_or(byte: Option<u8>) -> WornCard {
+    let mut card = WornCard::new();
+    if let Some(byte) = byte {
+        let word = Word {
+            low: byte as u64,
+            top: 0,
+        };
+        let _ = card.write(0, word);
+    }
+    card
+}
+
+// A pair whose low card is a pair: which of the three is faulty, lowest first.
+fn nested(
+    rt: &LibcRuntime,
+    low: Option<u8>,
+    middle: Option<u8>,
+    high: Option<u8>,
+) -> io::Result<()> {
+    let lower = PairCard {
+        low: faulty_or(low),
+        high: faulty_or(middle),
+    };
+    let mut card = PairCard {
+        low: lower,
+        high: faulty_or(high),
+    };
+    tell_read(rt, &mut card, 0)
+}
+
+fn pairs(rt: &LibcRuntime) -> io::Result<()> {
+    println!(
+        rt,
+        "a pair of a pair and a card: faulty below, in the middle, above, nowhere"
+    )?;
+    nested(rt, None, None, None)?;
+    nested(rt, Some(0x12), None, None)?;
+    nested(rt, Some(0x12), Some(0x34), None)?;
+    nested(rt, Some(0x12), Some(0x34), Some(0x56))?;
+    println!(
+        rt,
+        "a pair in the high card of a pair in the high card of a pair, faulty at the top"
+    )?;
+    let inner = PairCard {
+        low: faulty_or(Some(3)),
+        high: faulty_or(None),
+    };
+    let middle = PairCard {
+        low: faulty_or(Some(2)),
+        high: inner,
+    };
+    let mut card = PairCard {
+        low: faulty_or(Some(1)),
+        high: middle,
+    };
+    tell_size(rt, &card)?;
+    tell_read(rt, &mut card, 0)?;
+    tell_write(
+        rt,
+        &mut card,
+        0,
+        Word {
+            low: 0x0403_0201,
+            top: 0,
+        },
+    )?;
+    tell_read(rt, &mut card, 0)?;
+    tell_write(
+        rt,
+        &mut card,
+        0,
+        Word {
+            low: 0x1_0000_0000,
+            top: 0,
+        },
+    )?;
+    tell_write(
+        rt,
+        &mut card,
+        4,
+        Word {
+            low: 0x1_0000_0000,
+            top: 0,
+        },
+    )?;
+    tell_read(rt, &mut card, 4)
+}
+
+// Two buffers side by side, of widths that make 72 together and of widths that make 73.
+fn side_by_side(rt: &LibcRuntime) -> io::Result<()> {
+    println!(rt, "two buffers of 18 and 27 bytes as a pair")?;
+    let mut low = [0u8; 18];
+    let mut high = [0u8; 27];
+    tell_size(
+        rt,
+        &PairCard {
+            low: ByteCard::new(37, &mut low),
+            high: ByteCard::new(36, &mut high),
+        },
+    )?;
+    let mut card = PairCard {
+        low: ByteCard::new(36, &mut low),
+        high: ByteCard::new(36, &mut high),
+    };
+    tell_size(rt, &card)?;
+    tell_write(
+        rt,
+        &mut card,
+        1,
+        Word {
+            low: 0xfedc_ba98_7654_3210,
+            top: 0x5a,
+        },
+    )?;
+    tell_read(rt, &mut card, 1)?;
+    tell_read(rt, &mut card, 2)?;
+    tell_bytes(rt, &low)?;
+    tell_bytes(rt, &high)
+}
+
+// The depth stops at 255, and the way keeps its last sixteen digits.
+fn far_up(rt: &LibcRuntime) -> io::Result<()> {
+    println!(
+        rt,
+        "a fault above 300 layers, above 17 high sides, and above a high side with 15 and with 16 low ones"
+    )?;
+    let fault = Fault::arise(Refusal::Two, 5);
+    tell_fault(rt, fault.pass_up_through(&[None; 300]))?;
+    tell_fault(rt, fault.pass_up_through(&[Some(Side::High); 17]))?;
+    let once = fault.pass_up_from(Side::High);
+    tell_fault(rt, once.pass_up_through(&[Some(Side::Low); 15]))?;
+    tell_fault(rt, once.pass_up_through(&[Some(Side::Low); 16]))
+}
+
+fn main(rt: LibcRuntime) -> Result<(), AnyError> {
+    buffers(&rt)?;
+    layout(&rt)?;
+    pairs(&rt)?;
+    side_by_side(&rt)?;
+    far_up(&rt)?;
+    Ok(())
+}
