@@ -1,7 +1,7 @@
 // The interface of a code.
+ghost use mathlib.Core.List.{List};
 ghost use mathlib.Core.Path.{_≡_};
 ghost use Prim.Native.Nat.{ℕ, _+_};
-ghost use mathlib.Core.List.{List};
 ghost use Rattle.code.specs.Codes.{CodeModel, CodeLaws, generated, located};
 ghost use Rattle.code.specs.Decoding.{corrected};
 use crate::decoding::put_right;
