@@ -4,6 +4,7 @@ mod worn;
 use card::ByteCard;
 use card::ByteIsCard;
 use card::Card;
+use card::LentIsBuffer;
 use card::PairCard;
 use card::PairIsCard;
 use std::error::AnyError;
