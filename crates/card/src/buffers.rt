@@ -1,6 +1,6 @@
 // Bytes in which words lie, nine bytes each, lowest first.
-ghost use mathlib.Core.Path.{_≡_};
 ghost use mathlib.Core.List.{List};
+ghost use mathlib.Core.Path.{_≡_};
 ghost use Prim.Native.Nat.{ℕ, _+_, _≤_};
 ghost use lib.ListN.{length};
 ghost use denote.Ref.{now as pointed-at, name};
