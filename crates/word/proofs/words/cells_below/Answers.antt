@@ -1,4 +1,4 @@
-use Prim.Native.Nat.{_%_, _^_, _≤_}
+use Prim.Native.Nat.{_^_}
 use native.Mathlib.Nat.{mod-le}
 use native.Mathlib.Omega.{arith}
 use Rattle.word.proofs.Values.{mod-held, power-held}
