@@ -16,3 +16,6 @@ pub use byte::write_to_buffer;
 pub use cards::Card;
 pub use pair::PairCard;
 pub use pair::PairIsCard;
+pub use parity::ParityCard;
+pub use parity::ParityIsCard;
+pub use parity::Sense;

@@ -1,0 +1,10 @@
+pub mod Entries
+pub mod Picked
+pub mod LaneShares
+pub mod Lawful
+pub mod Told
+pub mod Parity
+pub mod Found
+pub mod Distances
+pub mod Decoded
+pub mod Slices

@@ -45,7 +45,7 @@ abbrev pub generated : CodeModel → ℕ → ℕ
 generated c d = bitXor (c .z) (picked (c .columns) d)
 
 -- the place at which s stands in the list, told by `at`; `other` where it stands nowhere
-unfoldable pub found : {X : Type 0} → (ℕ → X) → X → ℕ → List ℕ → ℕ → X
+abbrev pub found : {X : Type 0} → (ℕ → X) → X → ℕ → List ℕ → ℕ → X
 found at other i [] s = other
 found at other i (x ∷ xs) s = cond (eqb s x) (at i) (found at other (suc i) xs s)
 
@@ -58,9 +58,12 @@ powers (suc k) x = x ∷ powers k (2 * x)
 abbrev pub by-count : ℕ → Located
 by-count s = cond (eqb (ones s % 2) 0) Two Many
 
--- what a syndrome below 2 ^ k says
+-- what a syndrome below 2 ^ k says under these columns
+abbrev pub told : ℕ → List ℕ → ℕ → Located
+told k columns s = cond (eqb s 0) Clean (found Data (found Check (by-count s) 0 (powers k 1) s) 0 columns s)
+
 abbrev pub reduced : CodeModel → ℕ → Located
-reduced c s = cond (eqb s 0) Clean (found Data (found Check (by-count s) 0 (powers (c .k) 1) s) 0 (c .columns) s)
+reduced c s = told (c .k) (c .columns) s
 
 abbrev pub located : CodeModel → ℕ → Located
 located c s = reduced c (s % 2 ^ c .k)

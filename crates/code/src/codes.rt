@@ -1,6 +1,7 @@
 // The interface of a code.
 ghost use mathlib.Core.Path.{_≡_};
-ghost use Prim.Native.Nat.{_+_};
+ghost use mathlib.Core.List.{List};
+ghost use Prim.Native.Nat.{ℕ, _+_};
 ghost use Rattle.code.specs.Codes.{CodeModel, CodeLaws, generated, located};
 use crate::syndromes::Located;
 
@@ -14,6 +15,13 @@ pub trait Code {
     ghost code: { CodeModel };
 
     law lawful: { CodeLaws code };
+
+    // the bytes of the name
+    ghost title: { List ℕ };
+
+    // What people call the code.
+    fn name(&self) -> &str
+        ensures { λ r. ⌜ now r ≡ title ⌝ };
 
     fn data_width(&self) -> u8
         ensures { λ r. ⌜ r ≡ code .n ⌝ };

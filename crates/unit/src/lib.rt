@@ -1,0 +1,21 @@
+// The unit: check bits over any code and any card, and a log of what its readings met.
+mod calls;
+mod decoding;
+mod logs;
+mod merging;
+mod records;
+mod runs;
+mod stacks;
+mod units;
+
+pub use calls::Answer;
+pub use calls::Call;
+pub use logs::Log;
+pub use records::FirstError;
+pub use records::Kind;
+pub use records::RawWord;
+pub use runs::Ran;
+pub use runs::run_calls;
+pub use stacks::layer_kinds;
+pub use units::Unit;
+pub use units::UnitIsCard;
