@@ -1,6 +1,6 @@
 -- What a store into a buffer leaves. Assumes nothing.
-use mathlib.Core.Path.{_≡_, refl, sym, ap, _∙_}
-use mathlib.Core.List.{List, [], _∷_, _++_}
+use mathlib.Core.Path.{_≡_, refl, ap, _∙_}
+use mathlib.Core.List.{List, _∷_, _++_}
 use mathlib.Core.Logic.{_⊎_, inl, inr, ⊎-elim}
 use Prim.Native.Nat.{ℕ, _+_, _-_, _*_, _^_, _%_, _<_, _≤_}
 use native.Mathlib.Omega.{arith}
@@ -8,8 +8,8 @@ use native.Mathlib.Nat.{add-assoc}
 use borrow.Author.Needs.{needs}
 use borrow.Rule.Slice.PartMut.{putMid}
 use lib.ListN.{length, getD, set, take, drop}
-use Rattle.std.proofs.shelf.Lists.{places, set-append-right, drop-drop, drop-more, length-take-le, getD-append-right, getD-append-left, getD-take, getD-drop, length-append, length-drop}
-use Rattle.word.specs.Lanes.{lane, lane-list, lane-sum}
+use Rattle.std.proofs.shelf.Lists.{places, set-append-right, drop-drop, drop-more, length-take-le}
+use Rattle.word.specs.Lanes.{lane-list}
 use Rattle.word.proofs.LaneFacts.{lane-list-below, lane-top, lane-sum-same, lanes-whole}
 use Rattle.card.specs.Buffers.{loaded, stored, word-bytes}
 

@@ -1,18 +1,17 @@
 -- The built-in card keeps the laws of a card. Assumes nothing.
-use mathlib.Core.Path.{_≡_, refl, sym, ap, _∙_, subst}
+use mathlib.Core.Path.{_≡_, refl, ap, _∙_}
 use mathlib.Core.Bool.{cond}
-use mathlib.Core.Logic.{_≢_}
 use Prim.Native.Nat.{ℕ, _^_, _%_, _<_, _≤_, min}
 use native.Mathlib.Nat.{mod-eq-of-lt}
 use native.Mathlib.Omega.{arith}
 use lib.Pow.{pow-pos}
-use lib.ListN.{length, getD, set, length-set}
+use lib.ListN.{length, length-set}
 use lib.Seq.{getD-set-same, getD-set-other}
 use Rattle.std.proofs.shelf.Bits.{mod-below}
 use Rattle.std.proofs.shelf.Tests.{cond-both}
 use Rattle.word.specs.Words.{value, of-value}
 use Rattle.word.proofs.Values.{value-of-value}
-use Rattle.card.specs.Cards.{CardLaws, Entry, holds}
+use Rattle.card.specs.Cards.{CardLaws, holds}
 use Rattle.card.specs.Widths.{proper, shown-width}
 use Rattle.card.specs.Builtin.{Builtin, builtin-card, no-word}
 use Rattle.card.proofs.WidthFacts.{shown-within, place-from}

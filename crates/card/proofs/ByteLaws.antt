@@ -1,5 +1,5 @@
 -- The byte card keeps the laws of a card. Assumes nothing.
-use mathlib.Core.Path.{_≡_, refl, ap, _∙_}
+use mathlib.Core.Path.{refl, ap, _∙_}
 use mathlib.Core.Bool.{cond}
 use mathlib.Core.Logic.{_≢_, _⊎_, inl, inr, ⊎-elim}
 use Prim.Native.Nat.{ℕ, _+_, _*_, _/_, _^_, _%_, _<_, _≤_, min}
@@ -11,15 +11,15 @@ use Rattle.std.proofs.shelf.Bits.{mod-below}
 use Rattle.std.proofs.shelf.Tests.{cond-both, cases-lt}
 use Rattle.card.specs.Cards.{CardLaws, holds}
 use Rattle.card.specs.Widths.{proper, shown-width}
-use Rattle.card.specs.Buffers.{Buffer, byte-card, loaded, stored}
+use Rattle.card.specs.Bytes.{ByteState, byte-card}
 use Rattle.card.proofs.WidthFacts.{shown-within, place-from}
 use Rattle.card.proofs.BufferFacts.{length-stored, loaded-here, loaded-there}
 
-few : (s : Buffer) → byte-card .count s ≤ 65536
+few : (s : ByteState) → byte-card .count s ≤ 65536
 few s = cond-both (proper (s .made-with)) (min (length (s .bytes) / 9) 65536) 0 (λ n. n ≤ 65536) (λ _. omega arith) (λ _. omega arith)
 
 -- the nine bytes of a place lie in the buffer
-pub place-inside : (s : Buffer) (p : ℕ) → p < byte-card .count s → 9 * p + 9 ≤ length (s .bytes)
+pub place-inside : (s : ByteState) (p : ℕ) → p < byte-card .count s → 9 * p + 9 ≤ length (s .bytes)
 place-inside s p h = let k = place-from (proper (s .made-with)) _ p h .1 in omega arith
 
 -- the nine bytes of two places do not meet

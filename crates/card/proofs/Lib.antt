@@ -4,7 +4,6 @@ pub mod WidthFacts
 pub mod BuiltinLaws
 pub mod BufferFacts
 pub mod ByteLaws
-mod Lending
 pub mod PairLaws
 pub mod ParityFacts
 pub mod ParityLaws

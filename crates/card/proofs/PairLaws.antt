@@ -1,14 +1,11 @@
 -- Two lawful cards side by side are a lawful card. Assumes nothing.
 use mathlib.Core.Path.{_≡_, refl, sym, ap, _∙_}
-use mathlib.Core.Bool.{true, false, cond}
-use mathlib.Core.Logic.{_≢_, ⊎-elim}
 use Prim.Native.Nat.{ℕ, _+_, _*_, _/_, _%_, _^_, _<_, _≤_, min}
-use native.Mathlib.Nat.{mul-comm, mod-eq-of-lt, lt-of-lt-of-le}
+use native.Mathlib.Nat.{mod-eq-of-lt, lt-of-lt-of-le}
 use native.Mathlib.Omega.{arith}
 use lib.Dec.{leb}
-use lib.Pow.{pow-pos, pow-add, pow-mono}
-use Rattle.std.proofs.shelf.Bits.{mod-below, shr-below, div-add-mod', mul-add-lt}
-use Rattle.std.proofs.shelf.Tests.{cond-both, cases-bool, cond-true, cond-false, leb-true}
+use lib.Pow.{pow-mono}
+use Rattle.std.proofs.shelf.Tests.{cond-both, leb-true}
 use Rattle.std.specs.declared.result.Result.{Result}
 use Rattle.std.specs.declared.result.Result.the-variants.{Ok, Err}
 use Rattle.word.specs.Words.{value, of-value}

@@ -1,19 +1,15 @@
 -- A parity layer over a lawful card is a lawful card. Assumes nothing.
 use mathlib.Core.Path.{_≡_, refl, sym, ap, subst, _∙_}
-use mathlib.Core.Bool.{true, cond}
-use Prim.Native.Nat.{ℕ, _+_, _*_, _/_, _%_, _^_, _<_, _≤_}
+use Prim.Native.Nat.{ℕ, _*_, _/_, _%_, _^_, _<_, _≤_}
 use native.Mathlib.Omega.{arith}
-use lib.Dec.{eqb}
-use lib.Pow.{pow-pos}
-use Rattle.std.proofs.shelf.Bits.{mod-below}
-use Rattle.std.proofs.shelf.Tests.{cond-both, cond-true, eqb-true, eq-eqb}
+use Rattle.std.proofs.shelf.Tests.{cond-both, cond-true, eqb-true}
 use Rattle.std.specs.declared.result.Result.the-variants.{Ok, Err}
 use Rattle.word.specs.Lanes.{lane}
 use Rattle.word.specs.Words.{value, of-value}
 use Rattle.word.specs.declared.words.Word.{Word}
 use Rattle.word.specs.declared.faults.Fault.{Fault}
 use Rattle.word.proofs.Values.{value-of-value}
-use Rattle.card.specs.Cards.{CardModel, CardLaws, Entry, holds, faulty, Within, shown, read-answer, write-answer}
+use Rattle.card.specs.Cards.{CardModel, CardLaws, Entry, holds, faulty, Within, read-answer, write-answer}
 use Rattle.card.specs.Parities.{Sensed, parity-card, parity-bits, lanes-right, with-parity, checked, by-nines, lanes-in}
 use Rattle.card.specs.declared.parity.Sense.{Sense}
 use Rattle.card.proofs.CardFacts.{read-within, write-not-refused}

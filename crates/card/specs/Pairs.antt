@@ -1,5 +1,5 @@
 -- The pair: two cards side by side, whose words are cut in two. Assumes nothing.
-use mathlib.Core.Bool.{Bool, cond}
+use mathlib.Core.Bool.{cond}
 use Prim.Native.Nat.{ℕ, _+_, _*_, _/_, _%_, _^_, min}
 use lib.Dec.{leb}
 use Rattle.word.specs.Faults.{sided}

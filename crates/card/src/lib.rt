@@ -1,10 +1,13 @@
 // Cards: memories that are reached by four calls, and by nothing else.
+mod buffers;
 mod builtin;
 mod byte;
 mod cards;
 mod pair;
 mod parity;
 
+pub use buffers::Buffer;
+pub use buffers::LentIsBuffer;
 pub use builtin::BuiltinCard;
 pub use builtin::BuiltinIsCard;
 pub use byte::ByteCard;

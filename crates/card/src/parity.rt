@@ -26,7 +26,7 @@ pub struct ParityCard<C> {
 }
 
 impl<C: Card> ParityCard<C> {
-    // A layer over a card of nine cells for each lane. Over another width it has width 64 and no places.
+    // A layer over a card with nine cells for each lane. Any other card shows through it as 64 cells wide, with no place.
     pub fn new(sense: Sense, card: C) -> ParityCard<C>
         ensures { λ r. ⌜ r ≡ record { sense = sense; card = card } ⌝ }
     {

@@ -1,9 +1,13 @@
 // Prints what cards answer: a read word in hexadecimal after `=`, a granted write as `ok`, a refusal after `!` with number, place, depth and way.
 mod worn;
 
+ghost use mathlib.Core.List.{[], _∷_};
+ghost use mathlib.Core.Path.{_≡_};
+ghost use Rattle.std.specs.declared.option.Option.the-variants.{None};
 use card::ByteCard;
 use card::ByteIsCard;
 use card::Card;
+use card::LentIsBuffer;
 use card::PairCard;
 use card::PairIsCard;
 use std::error::AnyError;
@@ -38,6 +42,12 @@ fn tell_write<C: Card>(rt: &impl Print, card: &mut C, place: u16, word: Word) ->
         Ok(()) => println!(rt, "ok"),
         Err(fault) => tell_fault(rt, fault),
     }
+}
+
+fn low(cells: u64) -> Word
+    ensures { λ r. ⌜ r ≡ record { low = cells; top = 0 } ⌝ }
+{
+    Word { low: cells, top: 0 }
 }
 
 fn tell_size<C: Card>(rt: &impl Print, card: &C) -> io::Result<()> {
@@ -75,41 +85,21 @@ fn layout(rt: &LibcRuntime) -> io::Result<()> {
     let mut bytes = [0xaau8; 20];
     let mut card = ByteCard::new(20, &mut bytes);
     tell_read(rt, &mut card, 1)?;
-    tell_write(
-        rt,
-        &mut card,
-        1,
-        Word {
-            low: 0x54321,
-            top: 0,
-        },
-    )?;
+    tell_write(rt, &mut card, 1, low(0x54321))?;
     tell_read(rt, &mut card, 1)?;
-    tell_write(
-        rt,
-        &mut card,
-        1,
-        Word {
-            low: 0x10_0000,
-            top: 0,
-        },
-    )?;
+    tell_write(rt, &mut card, 1, low(0x10_0000))?;
     tell_write(rt, &mut card, 2, Word::ZERO)?;
     tell_read(rt, &mut card, 2)?;
     tell_bytes(rt, &bytes)
 }
 
-// A card that is faulty, or one that holds a byte.
-fn faulty_or(byte: Option<u8>) -> WornCard {
-    let mut card = WornCard::new();
-    if let Some(byte) = byte {
-        let word = Word {
-            low: byte as u64,
-            top: 0,
-        };
-        let _ = card.write(0, word);
+// A card that holds a byte at place 0, or is faulty there too.
+fn holding(byte: Option<u8>) -> WornCard
+    ensures { λ r. ⌜ r .bytes ≡ byte ∷ None ∷ None ∷ None ∷ [] ⌝ }
+{
+    WornCard {
+        bytes: [byte, None, None, None],
     }
-    card
 }
 
 // A pair whose low card is a pair: which of the three is faulty, lowest first.
@@ -120,17 +110,17 @@ fn nested(
     high: Option<u8>,
 ) -> io::Result<()> {
     let lower = PairCard {
-        low: faulty_or(low),
-        high: faulty_or(middle),
+        low: holding(low),
+        high: holding(middle),
     };
     let mut card = PairCard {
         low: lower,
-        high: faulty_or(high),
+        high: holding(high),
     };
     tell_read(rt, &mut card, 0)
 }
 
-fn pairs(rt: &LibcRuntime) -> io::Result<()> {
+fn paths(rt: &LibcRuntime) -> io::Result<()> {
     println!(
         rt,
         "a pair of a pair and a card: faulty below, in the middle, above, nowhere"
@@ -138,53 +128,32 @@ fn pairs(rt: &LibcRuntime) -> io::Result<()> {
     nested(rt, None, None, None)?;
     nested(rt, Some(0x12), None, None)?;
     nested(rt, Some(0x12), Some(0x34), None)?;
-    nested(rt, Some(0x12), Some(0x34), Some(0x56))?;
+    nested(rt, Some(0x12), Some(0x34), Some(0x56))
+}
+
+fn deep(rt: &LibcRuntime) -> io::Result<()> {
     println!(
         rt,
         "a pair in the high card of a pair in the high card of a pair, faulty at the top"
     )?;
     let inner = PairCard {
-        low: faulty_or(Some(3)),
-        high: faulty_or(None),
+        low: holding(Some(3)),
+        high: holding(None),
     };
     let middle = PairCard {
-        low: faulty_or(Some(2)),
+        low: holding(Some(2)),
         high: inner,
     };
     let mut card = PairCard {
-        low: faulty_or(Some(1)),
+        low: holding(Some(1)),
         high: middle,
     };
     tell_size(rt, &card)?;
     tell_read(rt, &mut card, 0)?;
-    tell_write(
-        rt,
-        &mut card,
-        0,
-        Word {
-            low: 0x0403_0201,
-            top: 0,
-        },
-    )?;
+    tell_write(rt, &mut card, 0, low(0x0403_0201))?;
     tell_read(rt, &mut card, 0)?;
-    tell_write(
-        rt,
-        &mut card,
-        0,
-        Word {
-            low: 0x1_0000_0000,
-            top: 0,
-        },
-    )?;
-    tell_write(
-        rt,
-        &mut card,
-        4,
-        Word {
-            low: 0x1_0000_0000,
-            top: 0,
-        },
-    )?;
+    tell_write(rt, &mut card, 0, low(0x1_0000_0000))?;
+    tell_write(rt, &mut card, 4, low(0x1_0000_0000))?;
     tell_read(rt, &mut card, 4)
 }
 
@@ -237,7 +206,8 @@ fn far_up(rt: &LibcRuntime) -> io::Result<()> {
 fn main(rt: LibcRuntime) -> Result<(), AnyError> {
     buffers(&rt)?;
     layout(&rt)?;
-    pairs(&rt)?;
+    paths(&rt)?;
+    deep(&rt)?;
     side_by_side(&rt)?;
     far_up(&rt)?;
     Ok(())

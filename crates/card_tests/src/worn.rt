@@ -1,7 +1,4 @@
 // A card of eight cells whose places are faulty until they are written.
-ghost use mathlib.Core.Path.{_≡_};
-ghost use lib.ListN.{replicate};
-ghost use Rattle.std.specs.declared.option.Option.the-variants.{None};
 ghost use Rattle.card_tests.specs.Worn.{worn-card};
 use card::Card;
 use word::Fault;
@@ -10,15 +7,7 @@ use word::Word;
 
 #[derive(Drop)]
 pub struct WornCard {
-    bytes: [Option<u8>; 4],
-}
-
-impl WornCard {
-    pub fn new() -> WornCard
-        ensures { λ r. ⌜ r .bytes ≡ replicate 4 None ⌝ }
-    {
-        WornCard { bytes: [None; 4] }
-    }
+    pub bytes: [Option<u8>; 4],
 }
 
 pub impl Card for WornCard as WornIsCard {

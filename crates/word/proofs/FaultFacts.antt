@@ -1,7 +1,7 @@
 -- What becomes of a fault over many layers. Assumes nothing.
 use mathlib.Core.Path.{_≡_, refl, sym, ap, _∙_}
 use mathlib.Core.List.{List, [], _∷_, _++_}
-use Prim.Native.Nat.{ℕ, suc, _+_, _*_, _^_, _/_, _%_, _<_, _≤_, min}
+use Prim.Native.Nat.{ℕ, _+_, _*_, _^_, _/_, _%_, _<_, _≤_, min}
 use native.Mathlib.Nat.{mul-comm, mul-left-comm, mul-assoc, mul-add, div-add-mod, add-mul-mod-self-left}
 use native.Mathlib.Omega.{arith}
 use lib.ListN.{length, getD, take}

@@ -1,5 +1,5 @@
 -- What is known of a number's lanes. Assumes nothing.
-use mathlib.Core.Path.{_≡_, refl, sym, ap, _∙_}
+use mathlib.Core.Path.{_≡_, refl, sym}
 use Prim.Native.Nat.{ℕ, zero, suc, _+_, _-_, _*_, _^_, _/_, _%_, _<_, _≤_}
 use native.Mathlib.Nat.{mul-comm, mod-eq-of-lt}
 use native.Mathlib.Omega.{arith}

@@ -1,15 +1,14 @@
 -- What is known of a word's number. Assumes nothing.
-use mathlib.Core.Path.{_≡_, refl, sym, ap, _∙_}
-use mathlib.Core.Bool.{cond, true, false}
+use mathlib.Core.Path.{_≡_, sym, ap, _∙_}
 use mathlib.Core.Logic.{_⊎_, inl, inr, ⊎-elim}
 use Prim.Native.Nat.{ℕ, _+_, _-_, _*_, _^_, _/_, _%_, _<_, _≤_, min}
-use native.Mathlib.Nat.{mul-comm, add-comm, lt-of-lt-of-le, zero-mul, zero-add, mul-one, one-mul, mul-right-comm, div-eq-of-lt, mod-eq-of-lt}
+use native.Mathlib.Nat.{mul-comm, lt-of-lt-of-le, mul-right-comm, div-eq-of-lt, mod-eq-of-lt}
 use native.Mathlib.Omega.{arith}
 use lib.Bits.{bitXor, xor-block, xor-zero-r, xor-lt}
 use lib.Dec.{ltb}
-use lib.Pow.{pow-pos, pow-mono, pow-lt, pow-add, mod-mod-pow}
+use lib.Pow.{pow-pos, pow-mono, pow-add, mod-mod-pow}
 use Rattle.std.proofs.shelf.Bits.{pow-below, one-shl}
-use Rattle.std.proofs.shelf.Tests.{lt-ltb, le-ltb, cond-true, cond-false, cases-lt}
+use Rattle.std.proofs.shelf.Tests.{lt-ltb, cond-true, cases-lt}
 use Rattle.word.specs.Words.{value, of-value, toggled}
 use Rattle.word.specs.declared.words.Word.{Word}
 

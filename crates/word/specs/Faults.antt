@@ -1,6 +1,8 @@
 -- Faults: how they arise and what each layer makes of them. Assumes nothing.
+use mathlib.Core.Path.{_≡_}
 use mathlib.Core.List.{List, [], _∷_}
 use Prim.Native.Nat.{ℕ, _+_, _*_, _^_, _%_, min}
+use lib.ListN.{length}
 use Rattle.std.specs.declared.option.Option.{Option}
 use Rattle.std.specs.declared.option.Option.the-variants.{Some, None}
 use Rattle.word.specs.declared.faults.Fault.{Fault}
@@ -56,3 +58,9 @@ abbrev pub sides-number : List (Option Side) → ℕ
 sides-number [] = 0
 sides-number (Some s ∷ ls) = 2 ^ pairs-in ls * side-number s + sides-number ls
 sides-number (None ∷ ls) = sides-number ls
+
+-- r is f above the layers: the depth counts them up to 255, and the way has a digit for each pair, of which it keeps the last sixteen
+pub record Above (ls : List (Option Side)) (f r : Fault) : Type 0 where
+  pub passed-by-each : r ≡ over-layers ls f
+  pub deep : r .depth ≡ min 255 (f .depth + length ls)
+  pub wound : r .way ≡ (2 ^ pairs-in ls * f .way + sides-number ls) % 65536

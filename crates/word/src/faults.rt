@@ -1,8 +1,6 @@
 // A refusal with where it arose and how it came up.
 ghost use mathlib.Core.Path.{_≡_};
-ghost use Prim.Native.Nat.{_+_, _*_, _^_, _%_, min};
-ghost use lib.ListN.{length};
-ghost use Rattle.word.specs.Faults.{arisen, passed, sided, over-layers, pairs-in, sides-number};
+ghost use Rattle.word.specs.Faults.{arisen, passed, sided, Above};
 use crate::refusals::Refusal;
 use crate::refusals::RefusalDebug;
 use crate::refusals::RefusalPartialEq;
@@ -55,25 +53,29 @@ impl Fault {
     {
         let doubled = (self.way % 0x8000) * 2;
         Fault {
-            depth: self.depth.saturating_add(1),
             way: doubled + side as u16,
-            ..self
+            ..self.pass_up()
         }
     }
 
     // The same fault above a whole stack, the lowest layer first: a side of a pair, or none for a layer over one card.
     pub fn pass_up_through(self, layers: &[Option<Side>]) -> Fault
-        ensures above { λ r. ⌜ r ≡ over-layers (now (layers .entry)) self ⌝ }
-        ensures depth { λ r. ⌜ r .depth ≡ min 255 (self .depth + length (now (layers .entry))) ⌝ }
-        ensures way { λ r. ⌜ r .way ≡ (2 ^ pairs-in (now (layers .entry)) * self .way + sides-number (now (layers .entry))) % 65536 ⌝ }
+        ensures { λ r. ⌜ Above (now (layers .entry)) self r ⌝ }
     {
-        let mut fault = self;
-        for layer in layers {
-            fault = match layer {
-                Some(side) => fault.pass_up_from(*side),
-                None => fault.pass_up(),
-            };
-        }
-        fault
+        climb(self, layers)
     }
+}
+
+// One layer after the other.
+fn climb(start: Fault, layers: &[Option<Side>]) -> Fault
+    ensures { λ r. ⌜ Above (now (layers .entry)) start r ⌝ }
+{
+    let mut fault = start;
+    for layer in layers {
+        fault = match layer {
+            Some(side) => fault.pass_up_from(*side),
+            None => fault.pass_up(),
+        };
+    }
+    fault
 }

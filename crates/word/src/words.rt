@@ -1,6 +1,6 @@
 // A whole number below 2^72.
-ghost use mathlib.Core.Path.{_≡_};
 ghost use mathlib.Core.Bool.{cond};
+ghost use mathlib.Core.Path.{_≡_};
 ghost use Prim.Native.Nat.{_+_, _*_, _/_, _%_, _^_, _<_};
 ghost use lib.Dec.{ltb};
 ghost use Rattle.std.specs.declared.option.Option.the-variants.{Some, None};
@@ -40,7 +40,7 @@ impl Word {
     pub fn fits(self, width: u8) -> bool
         ensures { λ r. ⌜ r ≡ ltb (value self) (2 ^ width) ⌝ }
     {
-        self.number() < 1u128 << width.min(72)
+        is_below(self.number(), width)
     }
 
     // The word with one cell complemented; no word has a cell from 72 on, and none changes for it.
@@ -67,10 +67,9 @@ impl Word {
         ensures { λ r. ⌜ r ≡ (of-value (value self % 2 ^ at), of-value (value self / 2 ^ at)) ⌝ }
     {
         let number = self.number();
-        let at = at.min(72);
         (
-            Word::narrow(number % (1u128 << at)),
-            Word::narrow(number >> at),
+            Word::narrow(cells_below(number, at)),
+            Word::narrow(cells_from(number, at)),
         )
     }
 
@@ -78,8 +77,7 @@ impl Word {
     pub fn join(low: Word, high: Word, at: u8) -> Word
         ensures { λ r. ⌜ r ≡ of-value ((value low + 2 ^ at * value high) % 2 ^ 72) ⌝ }
     {
-        let moved = (high.number() << at.min(72)) % 0x100_0000_0000_0000_0000;
-        Word::narrow((moved + low.number()) % 0x100_0000_0000_0000_0000)
+        Word::narrow(one_above(low.number(), high.number(), at))
     }
 
     // The word of a number that is known to be below 2^72.
@@ -92,4 +90,41 @@ impl Word {
             top: (number / 0x1_0000_0000_0000_0000) as u8,
         }
     }
+}
+
+// Whether a number is below 2^width.
+fn is_below(number: u128, width: u8) -> bool
+    requires { ⌜ number < 2 ^ 72 ⌝ }
+    ensures { λ r. ⌜ r ≡ ltb number (2 ^ width) ⌝ }
+{
+    number < 1u128 << width.min(72)
+}
+
+// The cells of a number below `at`.
+fn cells_below(number: u128, at: u8) -> u128
+    requires { ⌜ number < 2 ^ 72 ⌝ }
+    ensures part { λ r. ⌜ r ≡ number % 2 ^ at ⌝ }
+    ensures below { λ r. ⌜ r < 2 ^ 72 ⌝ }
+{
+    number % (1u128 << at.min(72))
+}
+
+// The cells of a number from `at` on.
+fn cells_from(number: u128, at: u8) -> u128
+    requires { ⌜ number < 2 ^ 72 ⌝ }
+    ensures part { λ r. ⌜ r ≡ number / 2 ^ at ⌝ }
+    ensures below { λ r. ⌜ r < 2 ^ 72 ⌝ }
+{
+    number >> at.min(72)
+}
+
+// `high` moved up to cell `at`, above `low`, without what passes cell 71.
+fn one_above(low: u128, high: u128, at: u8) -> u128
+    requires { ⌜ low < 2 ^ 72 ⌝ }
+    requires { ⌜ high < 2 ^ 72 ⌝ }
+    ensures whole { λ r. ⌜ r ≡ (low + 2 ^ at * high) % 2 ^ 72 ⌝ }
+    ensures below { λ r. ⌜ r < 2 ^ 72 ⌝ }
+{
+    let moved = (high << at.min(72)) % 0x100_0000_0000_0000_0000;
+    (moved + low) % 0x100_0000_0000_0000_0000
 }

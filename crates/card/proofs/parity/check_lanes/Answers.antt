@@ -1,6 +1,5 @@
-use mathlib.Core.Path.{sym, ap, _∙_}
+use mathlib.Core.Path.{sym, ap}
 use mathlib.Core.Bool.{true, false}
-use Prim.Native.Nat.{_/_, _*_, _^_}
 use native.Mathlib.Omega.{arith}
 use Rattle.word.specs.Words.{value}
 use Rattle.std.specs.declared.result.Result.the-variants.{Ok, Err}

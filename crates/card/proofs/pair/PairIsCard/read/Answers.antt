@@ -1,8 +1,5 @@
-use mathlib.Core.Path.{ap, _∙_}
-use Prim.Native.Nat.{_+_, _*_, _^_, _%_, _<_}
+use Prim.Native.Nat.{_<_}
 use native.Mathlib.Omega.{arith}
-use Rattle.std.specs.declared.result.Result.the-variants.{Ok}
-use Rattle.word.specs.Words.{value, of-value}
 use Rattle.card.specs.Pairs.{Both, pair-card}
 use Rattle.card.proofs.PairLaws.{both-read}
 use Rattle.card.proofs.pair.PairIsCard.read.Needs as need

@@ -1,13 +1,6 @@
-use mathlib.Core.Path.{_≡_, sym, ap, _∙_}
-use Prim.Native.Nat.{_+_, _*_, _^_, _<_, _-_, _%_}
+use Prim.Native.Nat.{_^_, _<_, _-_}
 use native.Mathlib.Omega.{arith}
-use borrow.Author.Needs.{needs}
-use lib.Bits.{bitXor, xor-lt}
-use Rattle.std.proofs.shelf.Bits.{pow-below, one-shl}
-use Rattle.std.proofs.shelf.Tests.{lt-ltb, cond-true}
-use Rattle.word.specs.Words.{value, of-value, toggled}
-use Rattle.word.specs.declared.words.Word.{Word}
-use Rattle.word.proofs.Values.{word-is, flipped-low, flipped-top}
+use Rattle.word.proofs.Values.{flipped-low, flipped-top}
 use Rattle.word.proofs.words.Word.flip.Needs as need
 
 pub returns-then-cell-lt64 : need.returns-then-cell-lt64

@@ -2,7 +2,7 @@ use mathlib.Core.Path.{_∙_}
 use Prim.Native.Nat.{_+_, _-_}
 use native.Mathlib.Omega.{arith}
 use Rattle.card.proofs.BufferFacts.{stored-is}
-use Rattle.card.proofs.byte.store.Needs as need
+use Rattle.card.proofs.buffers.store.Needs as need
 
 pub returns : need.returns
 returns c =
