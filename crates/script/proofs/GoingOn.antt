@@ -10,10 +10,10 @@ use Rattle.code.specs.Codes.{CodeModel, CodeLaws}
 use Rattle.card.specs.Cards.{CardModel, CardLaws}
 use Rattle.unit.specs.Units.{UnitState}
 use Rattle.unit.specs.Steps.{step}
-use Rattle.unit.specs.Histories.{past}
-use Rattle.unit.specs.Runs.{new-unit, answers, final, Kept}
+use Rattle.runs.specs.Histories.{past}
+use Rattle.runs.specs.Runs.{new-unit, answers, final, Kept}
 use Rattle.unit.specs.declared.calls.Call.{Call}
-use Rattle.unit.proofs.Keeping.{runs-keep}
+use Rattle.runs.proofs.Keeping.{runs-keep}
 use Rattle.script.specs.Texts.{answer-text}
 use Rattle.script.specs.Scripts.{Line, Asked, reply, End, after, Ran, done, stop, line, Calls-of, none, silent, asks, Goes-on}
 

@@ -13,8 +13,8 @@ use Rattle.code.specs.Codes.{CodeModel}
 use Rattle.card.specs.Cards.{CardModel}
 use Rattle.unit.specs.Units.{UnitState, Outcome}
 use Rattle.unit.specs.Steps.{step}
-use Rattle.unit.specs.Histories.{past}
-use Rattle.unit.specs.Runs.{new-unit, answers, final, Kept}
+use Rattle.runs.specs.Histories.{past}
+use Rattle.runs.specs.Runs.{new-unit, answers, final, Kept}
 use Rattle.unit.specs.declared.calls.Call.{Call}
 use Rattle.unit.specs.declared.calls.Answer.{Answer}
 use Rattle.unit.specs.declared.calls.Answer.the-variants.{Refused}

@@ -2,11 +2,3 @@ pub mod CodeFacts
 pub mod UnitLaws
 pub mod UnitSteps
 pub mod MergeFacts
-pub mod Masks
-pub mod Pasts
-pub mod Effects
-pub mod Hands
-pub mod LogSteps
-pub mod Keeping
-pub mod Owing
-pub mod RunSteps

@@ -3,7 +3,3 @@ pub mod Logs
 pub mod Merges
 pub mod Units
 pub mod Steps
-pub mod Histories
-pub mod Promises
-pub mod Stacks
-pub mod Runs

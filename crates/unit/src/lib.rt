@@ -4,8 +4,6 @@ mod decoding;
 mod logs;
 mod merging;
 mod records;
-mod runs;
-mod stacks;
 mod units;
 
 pub use calls::Answer;
@@ -14,8 +12,5 @@ pub use logs::Log;
 pub use records::FirstError;
 pub use records::Kind;
 pub use records::RawWord;
-pub use runs::Ran;
-pub use runs::run_calls;
-pub use stacks::layer_kinds;
 pub use units::Unit;
 pub use units::UnitIsCard;

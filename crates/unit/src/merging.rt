@@ -1,6 +1,6 @@
 // Merging byte lanes.
-ghost use mathlib.Core.Path.{_≡_};
 ghost use mathlib.Core.Bool.{cond};
+ghost use mathlib.Core.Path.{_≡_};
 ghost use Prim.Native.Nat.{_<_};
 ghost use Rattle.unit.specs.Merges.{bit, joined, merged-list};
 use word::join_lanes;

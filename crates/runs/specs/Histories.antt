@@ -70,7 +70,7 @@ hits p x Log = false
 hits p x First = false
 hits p x Clear = false
 
--- how many granted injects have hit cell x of p since the last granted write, merge or scrub of p
+-- how many granted injects have hit cell x of p, counted from the latest granted call that stored there
 abbrev pub hits-since : History → ℕ → ℕ → ℕ
 hits-since [] p x = 0
 hits-since (d ∷ h) p x =
@@ -90,7 +90,7 @@ number-of f (suc w) = number-of f w + cond (f w) 1 0
 abbrev pub upset-cells : ℕ → History → ℕ → ℕ
 upset-cells cells h p = number-of (upset h p) cells
 
--- a place is in hand from a granted write until three of its cells are upset together
+-- from a granted write on, a place is in hand for as long as three of its cells are never upset at once
 abbrev pub in-hand : ℕ → History → ℕ → Bool
 in-hand cells [] p = false
 in-hand cells (d ∷ h) p =

@@ -7,11 +7,11 @@ use lib.ListN.{length, getD, take, drop, set}
 use Rattle.std.proofs.shelf.Lists.{take-more, drop-more, set-at, take-at, length-take-le}
 use Rattle.code.specs.Codes.{CodeModel}
 use Rattle.card.specs.Cards.{CardModel}
 use Rattle.unit.specs.Units.{UnitState}
 use Rattle.unit.specs.Steps.{step}
-use Rattle.unit.specs.Runs.{answers, final}
+use Rattle.runs.specs.Runs.{answers, final}
 use Rattle.unit.specs.declared.calls.Call.{Call}
 use Rattle.unit.specs.declared.calls.Answer.{Answer}
 
 module _ (c : CodeModel) (m : CardModel) where
   pub length-answers : (s : UnitState (m .State)) (calls : List Call) → length (answers c m s calls) ≡ length calls

@@ -10,11 +10,11 @@ use Rattle.word.specs.Words.{value, of-value}
 use Rattle.word.specs.Faults.{arisen}
 use Rattle.word.specs.declared.words.Word.{Word}
 use Rattle.word.specs.declared.refusals.Refusal.the-variants.{Cell as CELL, Two as TWO}
-use Rattle.unit.specs.Histories.{Made, History, upset-cells, in-hand, last-laid}
+use Rattle.runs.specs.Histories.{Made, History, upset-cells, in-hand, last-laid}
 use Rattle.unit.specs.declared.calls.Call.{Call}
 use Rattle.unit.specs.declared.calls.Call.the-variants.{Read, Write, Merge, Scrub, Inject, Log, First, Clear}
 use Rattle.unit.specs.declared.calls.Answer.{Answer}
 use Rattle.unit.specs.declared.calls.Answer.the-variants.{Done, Gave, Merged, LogWord, FirstWas, Refused}
 
 -- a unit of n data cells and k check cells, with so many places
 module _ (n k places : ℕ) where

@@ -12,12 +12,12 @@ use Rattle.word.specs.Faults.{arisen}
 use Rattle.word.specs.declared.refusals.Refusal.the-variants.{Two as TWO}
 use Rattle.code.specs.Codes.{CodeModel, CodeLaws, codeword}
 use Rattle.card.specs.Cards.{CardModel, CardLaws, Entry, holds, faulty}
 use Rattle.unit.specs.Units.{UnitState, unit-entry}
-use Rattle.unit.specs.Histories.{Made, History, granted, writes, stores, hits, upset, number-of, upset-cells, in-hand, laid-by, last-laid}
+use Rattle.runs.specs.Histories.{Made, History, granted, writes, stores, hits, upset, number-of, upset-cells, in-hand, laid-by, last-laid}
 use Rattle.unit.specs.declared.calls.Call.{Call}
-use Rattle.unit.proofs.Masks.{mask, struck, mask-none, mask-same, mask-toggled, number-same, struck-read, struck-refused}
-use Rattle.unit.proofs.Pasts.{not-writes, laid-kept, hand-over, few-upset, upset-kept, upset-turned, laid-new, upset-none}
-use Rattle.unit.proofs.Effects.{places, Same, Put, Stores, whole, over, Effect, idle, stored, flipped}
+use Rattle.runs.proofs.Masks.{mask, struck, mask-none, mask-same, mask-toggled, number-same, struck-read, struck-refused}
+use Rattle.runs.proofs.Pasts.{not-writes, laid-kept, hand-over, few-upset, upset-kept, upset-turned, laid-new, upset-none}
+use Rattle.runs.proofs.Effects.{places, Same, Put, Stores, whole, over, Effect, idle, stored, flipped}
 
 none-pass : (w : ℕ) → number-of (λ _. false) w ≡ 0
 none-pass zero = refl

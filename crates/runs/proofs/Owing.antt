@@ -20,20 +20,20 @@ use Rattle.word.specs.declared.refusals.Refusal.the-variants.{Cell as CELL, Two
 use Rattle.code.specs.Codes.{CodeModel, CodeLaws, codeword, syndrome}
 use Rattle.card.specs.Cards.{CardModel, CardLaws, Entry, holds, faulty, shown}
 use Rattle.card.proofs.CardFacts.{read-entered}
 use Rattle.unit.specs.Logs.{LogState, log-word}
 use Rattle.unit.specs.Units.{UnitState, Outcome, unit-card, unit-entry, cut, logged, merging, kept, merged, injecting, injected, all-lanes}
 use Rattle.unit.specs.Steps.{step, read-told, done-told, merge-told}
-use Rattle.unit.specs.Histories.{Made, History, upset, upset-cells, in-hand, last-laid}
-use Rattle.unit.specs.Promises.{meets, keeps, Reads, Owed, Counts, All-in-hand, Met-in-hand, upset-met, errors-met, is-clear}
+use Rattle.runs.specs.Histories.{Made, History, upset, upset-cells, in-hand, last-laid}
+use Rattle.runs.specs.Promises.{meets, keeps, Reads, Owed, Counts, All-in-hand, Met-in-hand, upset-met, errors-met, is-clear}
 use Rattle.unit.specs.declared.calls.Call.{Call}
 use Rattle.unit.specs.declared.calls.Call.the-variants.{Read, Write, Merge, Scrub, Inject, Log, First, Clear}
 use Rattle.unit.specs.declared.calls.Answer.{Answer}
 use Rattle.unit.specs.declared.calls.Answer.the-variants.{Done, Gave, Merged, LogWord, FirstWas, Refused}
-use Rattle.unit.proofs.Masks.{mask, struck-syndrome}
-use Rattle.unit.proofs.Pasts.{holds-true}
-use Rattle.unit.proofs.Effects.{places, lane-some}
-use Rattle.unit.proofs.Hands.{Hand, Hands, hand-read, hand-refused}
-use Rattle.unit.proofs.LogSteps.{LogStep, log-step, Fine, counter-shown, counter-noted}
+use Rattle.runs.proofs.Masks.{mask, struck-syndrome}
+use Rattle.runs.proofs.Pasts.{holds-true}
+use Rattle.runs.proofs.Effects.{places, lane-some}
+use Rattle.runs.proofs.Hands.{Hand, Hands, hand-read, hand-refused}
+use Rattle.runs.proofs.LogSteps.{LogStep, log-step, Fine, counter-shown, counter-noted}
 
 module _ (c : CodeModel) (m : CardModel) (cl : CodeLaws c) (ml : CardLaws m) (h : History) (s : UnitState (m .State)) (hands : Hands c m cl h (s .card)) where
   -- the answer to a reading of a place in hand, told by what the entry shows

@@ -2,9 +2,9 @@ use mathlib.Core.Path.{_≡_}
 use mathlib.Core.List.{_++_}
 use Prim.Native.Nat.{_-_, _≤_}
 use lib.ListN.{length, take, drop}
 use Rattle.unit.specs.Units.{state-of}
-use Rattle.unit.specs.Runs.{new-unit, answers, final}
-use Rattle.unit.proofs.runs.run_calls.Given as given
+use Rattle.runs.specs.Runs.{new-unit, answers, final}
+use Rattle.runs.proofs.running.run_calls.Given as given
 
 abbrev pub Inv-loop-made : given.InvT-loop-made
 Inv-loop-made g l =

@@ -4,14 +4,14 @@ use mathlib.Core.List.{List, [], _∷_}
 use Prim.Native.Nat.{ℕ}
 use Rattle.code.specs.Codes.{CodeModel}
 use Rattle.card.specs.Cards.{CardModel, CardLaws}
 use Rattle.unit.specs.Logs.{new-log}
 use Rattle.unit.specs.Units.{UnitState, unit-card}
-use Rattle.unit.specs.Stacks.{Stacks-stand}
+use Rattle.runs.specs.Stacks.{Stacks-stand}
 use Rattle.unit.specs.Steps.{step}
-use Rattle.unit.specs.Histories.{History, past}
-use Rattle.unit.specs.Promises.{All-owed, Counts}
+use Rattle.runs.specs.Histories.{History, past}
+use Rattle.runs.specs.Promises.{All-owed, Counts}
 use Rattle.unit.specs.declared.calls.Call.{Call}
 use Rattle.unit.specs.declared.calls.Answer.{Answer}
 
 module _ (c : CodeModel) (m : CardModel) where
   -- a unit with a new log over a card, whatever the card holds

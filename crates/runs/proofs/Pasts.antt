@@ -7,9 +7,9 @@ use Prim.Native.Nat.{ℕ, zero, suc, _+_, _%_, _<_}
 use native.Mathlib.Omega.{arith}
 use lib.Dec.{T, eqb, ltb}
 use Rattle.std.proofs.shelf.Tests.{cases-bool, cases-eq, cond-true, cond-false, and-parts, and-left, ltb-true, eq-eqb, ne-eqb}
-use Rattle.unit.specs.Histories.{Made, History, granted, writes, stores, hits, hits-since, upset, number-of, upset-cells, in-hand, laid-by, last-laid}
+use Rattle.runs.specs.Histories.{Made, History, granted, writes, stores, hits, hits-since, upset, number-of, upset-cells, in-hand, laid-by, last-laid}
 use Rattle.unit.specs.declared.calls.Call.{Call}
 use Rattle.unit.specs.declared.calls.Call.the-variants.{Read, Write, Merge, Scrub, Inject, Log, First, Clear}
 
 pub holds-true : (b : Bool) → T b → b ≡ true
 holds-true true t = refl

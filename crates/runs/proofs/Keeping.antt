@@ -10,23 +10,23 @@ use Rattle.code.specs.Codes.{CodeModel, CodeLaws}
 use Rattle.card.specs.Cards.{CardModel, CardLaws, Entry, holds, faulty, Within}
 use Rattle.card.proofs.PairLaws.{pair-laws}
 use Rattle.card.proofs.ParityLaws.{parity-laws}
 use Rattle.unit.specs.Units.{UnitState, unit-card}
-use Rattle.unit.specs.Stacks.{Stack, one, other, unit, pair, parity, stacked, Worked-out, Stacks-stand}
+use Rattle.runs.specs.Stacks.{Stack, one, other, unit, pair, parity, stacked, Worked-out, Stacks-stand}
 use Rattle.std.specs.declared.option.Option.{Option}
 use Rattle.std.specs.declared.option.Option.the-variants.{Some, None}
 use Rattle.std.proofs.shelf.Tests.{cases-bool}
 use Rattle.unit.specs.Logs.{LogState}
 use Rattle.unit.specs.Steps.{step}
-use Rattle.unit.specs.Histories.{Made, History, past}
-use Rattle.unit.specs.Promises.{meets, is-clear, Owed, All-owed, Counts}
-use Rattle.unit.specs.Runs.{new-unit, answers, final, Kept, Runs-keep}
+use Rattle.runs.specs.Histories.{Made, History, past}
+use Rattle.runs.specs.Promises.{meets, is-clear, Owed, All-owed, Counts}
+use Rattle.runs.specs.Runs.{new-unit, answers, final, Kept, Runs-keep}
 use Rattle.unit.specs.declared.calls.Call.{Call}
 use Rattle.unit.specs.declared.calls.Call.the-variants.{Read, Write, Merge, Scrub, Inject, Log, First, Clear}
 use Rattle.unit.proofs.UnitLaws.{fits-from-place, unit-laws}
-use Rattle.unit.proofs.Effects.{places, Effect, idle, stored, flipped, effect}
-use Rattle.unit.proofs.Hands.{Hands, hands-kept}
-use Rattle.unit.proofs.LogSteps.{LogStep, log-step, Fine, fine-new, fine-logged}
-use Rattle.unit.proofs.Owing.{owed, counts-kept}
+use Rattle.runs.proofs.Effects.{places, Effect, idle, stored, flipped, effect}
+use Rattle.runs.proofs.Hands.{Hands, hands-kept}
+use Rattle.runs.proofs.LogSteps.{LogStep, log-step, Fine, fine-new, fine-logged}
+use Rattle.runs.proofs.Owing.{owed, counts-kept}
 
 module _ (a b : CardModel) (al : CardLaws a) (bl : CardLaws b) where
   stack-laws : (x : Stack) → CardLaws (stacked a b x)

@@ -1,6 +1,6 @@
 // Stacks of layers.
 ghost use mathlib.Core.Path.{_≡_};
-ghost use Rattle.unit.specs.Stacks.{Stacks-stand};
+ghost use Rattle.runs.specs.Stacks.{Stacks-stand};
 use card::Card;
 
 // How many kinds of layers stand on cards: units, pairs and parity layers. Every stack of them over two cards is a card itself.

@@ -3,14 +3,14 @@ use mathlib.Core.List.{[], _++_}
 use Prim.Native.Nat.{_≤_, _+_, min}
 use native.Mathlib.Omega.{arith}
 use lib.ListN.{length, take, drop, length-set}
 use Rattle.unit.specs.Units.{state-of}
-use Rattle.unit.specs.Histories.{past}
-use Rattle.unit.specs.Runs.{new-unit, answers, final, Kept}
+use Rattle.runs.specs.Histories.{past}
+use Rattle.runs.specs.Runs.{new-unit, answers, final, Kept}
 use Rattle.unit.specs.declared.calls.Call.the-variants.{Read}
-use Rattle.unit.proofs.Keeping.{runs-keep}
-use Rattle.unit.proofs.RunSteps.{final-more, answers-more, answers-front}
-use Rattle.unit.proofs.runs.run_calls.Needs as need
-use Rattle.unit.proofs.runs.run_calls.Needs.{then-loop-made-test·else-made-answers, else-loop-made-test}
+use Rattle.runs.proofs.Keeping.{runs-keep}
+use Rattle.runs.proofs.RunSteps.{final-more, answers-more, answers-front}
+use Rattle.runs.proofs.running.run_calls.Needs as need
+use Rattle.runs.proofs.running.run_calls.Needs.{then-loop-made-test·else-made-answers, else-loop-made-test}
 
 pub loop-made-again : need.loop-made-again
 loop-made-again g c =

@@ -1,16 +1,16 @@
 // Runs of calls on a new unit, and the promise over them.
-ghost use mathlib.Core.Path.{_≡_};
 ghost use mathlib.Core.List.{[], _++_};
+ghost use mathlib.Core.Path.{_≡_};
 ghost use Prim.Native.Nat.{min};
 ghost use lib.ListN.{length, take, drop};
-ghost use Rattle.unit.specs.Histories.{past};
+ghost use Rattle.runs.specs.Histories.{past};
 ghost use Rattle.unit.specs.Units.{state-of};
-ghost use Rattle.unit.specs.Runs.{new-unit, answers as answers-to, final, Kept};
-use crate::calls::Answer;
-use crate::calls::Call;
-use crate::units::Unit;
+ghost use Rattle.runs.specs.Runs.{new-unit, answers as answers-to, final, Kept};
 use card::Card;
 use code::Code;
+use unit::Answer;
+use unit::Call;
+use unit::Unit;
 
 // A unit after a run, and how many calls were made.
 #[derive(Drop)]

@@ -1,0 +1,4 @@
+pub mod Histories
+pub mod Promises
+pub mod Stacks
+pub mod Runs
