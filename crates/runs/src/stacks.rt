@@ -8,6 +8,13 @@ pub fn layer_kinds<A: Card, B: Card>(_one: &A, _other: &B) -> u8
     ensures kinds { λ r. ⌜ r ≡ 3 ⌝ }
     ensures stand { λ _. ⌜ Stacks-stand (A·Card .model) (B·Card .model) ⌝ }
 {
+    kinds()
+}
+
+// Units, pairs, parity layers.
+fn kinds() -> u8
+    ensures { λ r. ⌜ r ≡ 3 ⌝ }
+{
     let [unit, pair, parity] = [1, 1, 1];
     unit + pair + parity
 }

@@ -131,6 +131,8 @@ fn call_of(command: Command<'_>) -> Call
 pub fn parse(line: &[u8]) -> Option<Call>
     ensures { λ r. ⌜ Parsed (now (line .entry)) r ⌝ }
 {
-    let command = command_of(line)?;
-    Some(call_of(command))
+    match command_of(line) {
+        Some(command) => Some(call_of(command)),
+        None => None,
+    }
 }

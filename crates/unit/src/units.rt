@@ -3,7 +3,7 @@ ghost use mathlib.Core.Path.{_≡_};
 ghost use Rattle.unit.specs.Logs.{new-log, log-word};
 ghost use Prim.Native.Nat.{_/_, _^_, _<_, _≤_};
 ghost use Rattle.word.specs.Words.{value};
-ghost use Rattle.unit.specs.Units.{unit-card, merged, kept, scrubbed, injected, state-of};
+ghost use Rattle.unit.specs.Units.{unit-card, merged, kept, all-lanes, scrubbed, injected, state-of};
 use crate::decoding::lay;
 use crate::decoding::take;
 use crate::logs::Log;
@@ -81,8 +81,14 @@ impl<C: Code, D: Card> Unit<C, D> {
         ensures answer { λ r. ⌜ r ≡ scrubbed (C·Code .code) (D·Card .model) (state-of (D·Card .state) (now (self .entry))) place .answer ⌝ }
         ensures after { λ _. ⌜ state-of (D·Card .state) (now (self .exit)) ≡ scrubbed (C·Code .code) (D·Card .model) (state-of (D·Card .state) (now (self .entry))) place .state ⌝ }
     {
-        let every = ((1u16 << self.lanes()) - 1) as u8;
-        self.merge(place, Word::ZERO, every)
+        self.merge(place, Word::ZERO, self.every_lane())
+    }
+
+    // The enables that keep every lane.
+    fn every_lane(&self) -> u8
+        ensures { λ r. ⌜ r ≡ all-lanes (C·Code .code) (D·Card .model) ⌝ }
+    {
+        ((1u16 << self.lanes()) - 1) as u8
     }
 
     // How many lanes a word has.
@@ -106,7 +112,7 @@ impl<C: Code, D: Card> Unit<C, D> {
         }
         match self.card.read(place) {
             Ok(raw) => self.card.write(place, raw.flip(cell)),
-            Err(fault) => Err(fault.pass_up()),
+            Err(below) => Err(below.pass_up()),
         }
     }
 }
