@@ -8,3 +8,4 @@ pub mod Found
 pub mod Distances
 pub mod Decoded
 pub mod Slices
+pub mod Marked

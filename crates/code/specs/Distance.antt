@@ -2,7 +2,7 @@
 use mathlib.Core.Path.{_≡_}
 use mathlib.Core.Bool.{false}
 use mathlib.Core.Logic.{_⊎_}
-use Prim.Native.Nat.{ℕ, _+_, _^_, _<_}
+use Prim.Native.Nat.{ℕ, _+_, _^_, _%_, _<_}
 use lib.Bits.{bitXor}
 use Rattle.std.specs.Results.{isOk}
 use Rattle.std.specs.declared.result.Result.the-variants.{Ok, Err}
@@ -15,9 +15,10 @@ abbrev pub Flip-adds-column : CodeModel → Type 0
 Flip-adds-column c =
     (raw x : ℕ) → x < c .n + c .k → syndrome c (bitXor raw (2 ^ x)) ≡ bitXor (syndrome c raw) (cell-column c x)
 
--- the syndrome of a codeword is 0
+-- the codewords are the raw words whose syndrome is 0
 abbrev pub Codewords-clean : CodeModel → Type 0
-Codewords-clean c = (d : ℕ) → d < 2 ^ c .n → syndrome c (codeword c d) ≡ 0
+Codewords-clean c =
+    ((d : ℕ) → d < 2 ^ c .n → syndrome c (codeword c d) ≡ 0) × ((raw : ℕ) → syndrome c raw ≡ 0 → raw ≡ codeword c (raw % 2 ^ c .n))
 
 -- one complemented cell is put right
 abbrev pub Single-corrected : CodeModel → Type 0

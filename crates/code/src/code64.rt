@@ -4,10 +4,12 @@ ghost use lib.Chars.{codes};
 ghost use Rattle.code.specs.Codes.{told};
 ghost use Rattle.code.specs.Tables.{code64, columns64, inverted, order64, table64};
 ghost use Rattle.code.specs.Lanes.{gathered};
+ghost use Rattle.code.specs.Marks.{Marks64, followed};
 use crate::codes::Code;
 use crate::shares::INVERTED;
 use crate::shares::share64;
 use crate::syndromes::Located;
+use word::Refusal;
 use word::lanes_of;
 
 #[derive(Clone, Copy)]
@@ -44,6 +46,10 @@ pub impl Code for Code64 as Code64Code {
 
     fn partial(&self, _data: u64) -> u8 {
         0x00
+    }
+
+    fn correct(&self, data: u64, syndrome: u8) -> Result<u64, Refusal> {
+        follow(data, marks()[syndrome as usize])
     }
 }
 
@@ -143,4 +149,44 @@ fn check_bits(lanes: [u8; 8]) -> u8
         ^ share64(5, lanes[5])
         ^ share64(6, lanes[6])
         ^ share64(7, lanes[7])
+}
+
+// What each syndrome says, as one number: the cell of the raw word, or 72 for none, 73 for two and 74 for many.
+static MARKS: [u8; 256] = *b"\
+    \x48\x40\x41\x49\x42\x49\x49\x4a\x43\x49\x49\x11\x49\x4a\x10\x49\
+    \x44\x49\x49\x12\x49\x13\x14\x49\x49\x15\x16\x49\x17\x49\x49\x4a\
+    \x45\x49\x49\x08\x49\x09\x0a\x49\x49\x0b\x0c\x49\x0d\x49\x49\x4a\
+    \x49\x0e\x4a\x49\x0f\x49\x49\x4a\x4a\x49\x49\x4a\x49\x4a\x4a\x49\
+    \x46\x49\x49\x4a\x49\x4a\x4a\x49\x49\x4a\x21\x49\x4a\x49\x49\x20\
+    \x49\x4a\x22\x49\x23\x49\x49\x24\x25\x49\x49\x26\x49\x27\x4a\x49\
+    \x49\x4a\x38\x49\x39\x49\x49\x3a\x3b\x49\x49\x3c\x49\x3d\x4a\x49\
+    \x3e\x49\x49\x4a\x49\x3f\x4a\x49\x49\x4a\x4a\x49\x4a\x49\x49\x4a\
+    \x47\x49\x49\x4a\x49\x4a\x4a\x49\x49\x4a\x31\x49\x4a\x49\x49\x30\
+    \x49\x4a\x32\x49\x33\x49\x49\x34\x35\x49\x49\x36\x49\x37\x4a\x49\
+    \x49\x4a\x28\x49\x29\x49\x49\x2a\x2b\x49\x49\x2c\x49\x2d\x4a\x49\
+    \x2e\x49\x49\x4a\x49\x2f\x4a\x49\x49\x4a\x4a\x49\x4a\x49\x49\x4a\
+    \x49\x4a\x4a\x49\x4a\x49\x49\x4a\x4a\x49\x49\x01\x49\x4a\x00\x49\
+    \x4a\x49\x49\x02\x49\x03\x04\x49\x49\x05\x06\x49\x07\x49\x49\x4a\
+    \x4a\x49\x49\x18\x49\x19\x1a\x49\x49\x1b\x1c\x49\x1d\x49\x49\x4a\
+    \x49\x1e\x4a\x49\x1f\x49\x49\x4a\x4a\x49\x49\x4a\x49\x4a\x4a\x49";
+
+fn marks() -> &'static [u8; 256]
+    ensures { λ r. ⌜ Marks64 (now r) ⌝ }
+{
+    &MARKS
+}
+
+// The data with the marked cell put right, or a refusal.
+fn follow(data: u64, mark: u8) -> Result<u64, Refusal>
+    ensures { λ r. ⌜ r ≡ followed «data» mark ⌝ }
+{
+    if mark < 64 {
+        Ok(data ^ (1u64 << mark))
+    } else if mark < 73 {
+        Ok(data)
+    } else if mark == 73 {
+        Err(Refusal::Two)
+    } else {
+        Err(Refusal::Many)
+    }
 }

@@ -1,9 +1,12 @@
 // The interface of a code.
-ghost use mathlib.Core.Path.{_≡_};
 ghost use mathlib.Core.List.{List};
+ghost use mathlib.Core.Path.{_≡_};
 ghost use Prim.Native.Nat.{ℕ, _+_};
 ghost use Rattle.code.specs.Codes.{CodeModel, CodeLaws, generated, located};
+ghost use Rattle.code.specs.Decoding.{corrected};
+use crate::decoding::put_right;
 use crate::syndromes::Located;
+use word::Refusal;
 
 // A code of n data cells and k check cells. Its check bits are z xor the columns of the set data cells.
 pub trait Code {
@@ -47,4 +50,11 @@ pub trait Code {
     // The partial check bits that a cascaded code shows in the log; 0 in every other.
     fn partial(&self, data: u64) -> u8
         ensures { λ r. ⌜ r ≡ code .partial «data» ⌝ };
+
+    // The data of a raw word that has this syndrome, with a single wrong cell put right, or a refusal.
+    fn correct(&self, data: u64, syndrome: u8) -> Result<u64, Refusal>
+        ensures { λ r. ⌜ r ≡ corrected «data» (located code syndrome) ⌝ }
+    {
+        put_right(data, self.locate(syndrome))
+    }
 }

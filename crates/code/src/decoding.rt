@@ -26,11 +26,11 @@ pub fn decode<C: Code>(code: &C, data: u64, check: u8) -> Result<u64, Refusal>
 pub fn correct<C: Code>(code: &C, data: u64, syndrome: u8) -> Result<u64, Refusal>
     ensures { λ r. ⌜ r ≡ corrected «data» (located-by (C·Code .code) syndrome) ⌝ }
 {
-    put_right(data, code.locate(syndrome))
+    code.correct(data, syndrome)
 }
 
 // The data with the located cell complemented, or a refusal.
-fn put_right(data: u64, located: Located) -> Result<u64, Refusal>
+pub(crate) fn put_right(data: u64, located: Located) -> Result<u64, Refusal>
     requires { ⌜ ((i : ℕ) → located ≡ Located.Data i → i < 64) ⌝ }
     ensures { λ r. ⌜ r ≡ corrected «data» located ⌝ }
 {

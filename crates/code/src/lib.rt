@@ -8,6 +8,7 @@ mod decoding;
 mod promises;
 mod shares;
 mod syndromes;
+mod worked;
 
 pub use cascaded::Cascaded64;
 pub use cascaded::Cascaded64Code;
@@ -27,6 +28,8 @@ pub use decoding::syndrome_of;
 pub use promises::clean_syndrome;
 pub use promises::correctable;
 pub use promises::detectable;
-pub use promises::slice_count;
-pub use promises::worked_values;
+pub use promises::slice_width;
 pub use syndromes::Located;
+pub use syndromes::LocatedDebug;
+pub use syndromes::LocatedPartialEq;
+pub use worked::worked_values;

@@ -1,8 +1,6 @@
-// Theorems, each in the contract of a small function: what the laws promise of every code, and what holds of the four.
+// What the laws promise of every code, and what ties the cascade to the single code.
 ghost use mathlib.Core.Path.{_≡_};
-ghost use lib.ListN.{length};
 ghost use Rattle.code.specs.Cascade.{Same-as-single};
-ghost use Rattle.code.specs.Worked.{worked, Worked-hold};
 ghost use Rattle.code.specs.Distance.{Flip-adds-column, Codewords-clean, Single-corrected, Double-refused, Near-one, Decodes-near, Refused-far};
 use crate::codes::Code;
 
@@ -34,18 +32,11 @@ pub fn detectable<C: Code>(_code: &C) -> u8
     2
 }
 
-// How many slices the cascaded code has; together they make the check bits, syndromes, codewords and decoded words of the single code.
-pub fn slice_count() -> u8
-    ensures count { λ r. ⌜ r ≡ 2 ⌝ }
+// How many data cells each slice of the cascaded code takes; the two make the check bits, syndromes, codewords and decoded words of
+// the single code.
+pub fn slice_width() -> u8
+    ensures width { λ r. ⌜ r ≡ 32 ⌝ }
     ensures same { λ _. ⌜ Same-as-single ⌝ }
 {
-    2
-}
-
-// How many worked values the definitions are held to.
-pub fn worked_values() -> u8
-    ensures count { λ r. ⌜ r ≡ length worked ⌝ }
-    ensures hold { λ _. ⌜ Worked-hold ⌝ }
-{
-    13
+    32
 }

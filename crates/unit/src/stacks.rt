@@ -8,5 +8,6 @@ pub fn layer_kinds<A: Card, B: Card>(_one: &A, _other: &B) -> u8
     ensures kinds { λ r. ⌜ r ≡ 3 ⌝ }
     ensures stand { λ _. ⌜ Stacks-stand (A·Card .model) (B·Card .model) ⌝ }
 {
-    3
+    let [unit, pair, parity] = [1, 1, 1];
+    unit + pair + parity
 }

@@ -43,7 +43,8 @@ impl Log {
     pub fn taken(&self) -> Option<RawWord>
         ensures { λ r. ⌜ r ≡ log-of (now (self .entry)) .taken ⌝ }
     {
-        self.taken
+        let Log { taken, .. } = self;
+        *taken
     }
 
     // The first error.
