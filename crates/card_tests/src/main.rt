@@ -10,6 +10,9 @@ use card::Card;
 use card::LentIsBuffer;
 use card::PairCard;
 use card::PairIsCard;
+use card::ParityCard;
+use card::ParityIsCard;
+use card::Sense;
 use std::error::AnyError;
 use std::io;
 use word::Fault;
@@ -189,6 +192,63 @@ fn side_by_side(rt: &LibcRuntime) -> io::Result<()> {
     tell_bytes(rt, &high)
 }
 
+// The parity bits of eight lanes make the ninth byte.
+fn senses(rt: &LibcRuntime) -> io::Result<()> {
+    println!(rt, "parity over nine bytes, even and odd")?;
+    for sense in [Sense::Even, Sense::Odd] {
+        let mut bytes = [0u8; 9];
+        let mut card = ParityCard::new(sense, ByteCard::new(72, &mut bytes));
+        tell_size(rt, &card)?;
+        tell_write(rt, &mut card, 0, low(0x0100_0000_0000_0003))?;
+        tell_read(rt, &mut card, 0)?;
+        tell_bytes(rt, &bytes)?;
+    }
+    Ok(())
+}
+
+// Two lanes and their two bits in 18 cells.
+fn two_lanes(rt: &LibcRuntime) -> io::Result<()> {
+    println!(rt, "odd parity over 18 cells, and over 20")?;
+    let mut bytes = [0u8; 18];
+    tell_size(
+        rt,
+        &ParityCard::new(Sense::Odd, ByteCard::new(20, &mut bytes)),
+    )?;
+    let mut card = ParityCard::new(Sense::Odd, ByteCard::new(18, &mut bytes));
+    tell_size(rt, &card)?;
+    tell_read(rt, &mut card, 1)?;
+    tell_write(rt, &mut card, 1, low(0x1_0000))?;
+    tell_write(rt, &mut card, 1, low(0x0103))?;
+    tell_read(rt, &mut card, 1)?;
+    tell_bytes(rt, &bytes)?;
+    bytes[10] = 3;
+    let mut card = ParityCard::new(Sense::Odd, ByteCard::new(18, &mut bytes));
+    tell_read(rt, &mut card, 1)
+}
+
+// A fault from below a parity layer, and one that it finds itself, each below one pair more.
+fn parity_paths(rt: &LibcRuntime) -> io::Result<()> {
+    println!(
+        rt,
+        "parity over a pair with a faulty low card, and a pair with a wrong parity in its high card"
+    )?;
+    let mut bit = [0u8; 9];
+    let raw = PairCard {
+        low: holding(None),
+        high: ByteCard::new(1, &mut bit),
+    };
+    let mut card = ParityCard::new(Sense::Even, raw);
+    tell_size(rt, &card)?;
+    tell_read(rt, &mut card, 0)?;
+    let mut bytes = [1, 0, 0, 0, 0, 0, 0, 0, 0];
+    let mut card = PairCard {
+        low: holding(Some(5)),
+        high: ParityCard::new(Sense::Even, ByteCard::new(9, &mut bytes)),
+    };
+    tell_size(rt, &card)?;
+    tell_read(rt, &mut card, 0)
+}
+
 // The depth stops at 255, and the way keeps its last sixteen digits.
 fn far_up(rt: &LibcRuntime) -> io::Result<()> {
     println!(
@@ -209,6 +269,9 @@ fn main(rt: LibcRuntime) -> Result<(), AnyError> {
     paths(&rt)?;
     deep(&rt)?;
     side_by_side(&rt)?;
+    senses(&rt)?;
+    two_lanes(&rt)?;
+    parity_paths(&rt)?;
     far_up(&rt)?;
     Ok(())
 }
