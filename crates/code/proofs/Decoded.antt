@@ -1,24 +1,19 @@
 -- How raw words decode, from the laws of their code. Assumes nothing.
 use mathlib.Core.Path.{_≡_, refl, sym, ap, _∙_}
-use mathlib.Core.Bool.{true, false}
-use mathlib.Core.Logic.{_⊎_, inl, inr, ⊎-elim}
+use mathlib.Core.Bool.{false}
+use mathlib.Core.Logic.{_⊎_, inl, inr}
 use Prim.Native.Nat.{ℕ, _+_, _^_, _%_, _<_}
-use native.Mathlib.Omega.{arith}
-use lib.Bits.{bitXor, xor-self, xor-lt, xor-zero-l}
+use lib.Bits.{bitXor, xor-self}
 use lib.Pow.{pow-pos}
-use Rattle.std.proofs.shelf.Bits.{mod-below, pow-below}
+use Rattle.std.proofs.shelf.Bits.{mod-below}
 use Rattle.std.proofs.shelf.Tests.{cond-both, true≢false}
 use Rattle.std.specs.Results.{isOk}
-use Rattle.std.specs.declared.result.Result.{Result}
-use Rattle.std.specs.declared.result.Result.the-variants.{Ok, Err}
-use Rattle.word.specs.declared.refusals.Refusal.{Refusal}
-use Rattle.word.specs.declared.refusals.Refusal.the-variants.{Two as TWO}
-use Rattle.code.specs.Codes.{CodeModel, CodeLaws, codeword, syndrome, located, by-count}
+use Rattle.std.specs.declared.result.Result.the-variants.{Ok}
+use Rattle.code.specs.Codes.{CodeModel, CodeLaws, codeword, syndrome, located}
 use Rattle.code.specs.Decoding.{cell-column, at-cell, corrected, decoded}
 use Rattle.code.specs.Distance.{Single-corrected, Double-refused, Near, Near-one, Decodes-near, Refused-far}
-use Rattle.code.specs.declared.syndromes.Located.{Located}
 use Rattle.code.specs.declared.syndromes.Located.the-variants.{Two, Many}
-use Rattle.code.proofs.Distances.{Cell, of-data, of-check, cell-of, Says, clean, cell, far, says, flip-adds, codeword-clean, codeword-data, codeword-below, codeword-from-clean, syndrome-below, located-cell, located-two, located-zero, low-flip, high-rest, xor-twice}
+use Rattle.code.proofs.Distances.{Cell, of-data, of-check, cell-of, Says, clean, cell, far, says, flip-adds, codeword-clean, codeword-data, codeword-from-clean, syndrome-below, located-cell, located-two, located-zero, low-flip, high-rest, xor-twice}
 
 module _ (c : CodeModel) (laws : CodeLaws c) where
   -- the located cell is complemented, wherever it lies

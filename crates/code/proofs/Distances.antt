@@ -1,21 +1,18 @@
 -- What the laws of a code give: syndromes of flipped words, and how far codewords lie apart. Assumes nothing.
-use mathlib.Core.Path.{_≡_, refl, sym, ap, _∙_, subst}
-use mathlib.Core.Bool.{Bool, true, false, cond}
-use mathlib.Core.Logic.{_⊎_, inl, inr, ⊎-elim}
-use mathlib.Core.List.{List}
-use Prim.Native.Nat.{ℕ, zero, suc, _+_, _-_, _*_, _^_, _/_, _%_, _<_, _≤_}
+use mathlib.Core.Path.{_≡_, refl, sym, ap, _∙_}
+use mathlib.Core.Logic.{_⊎_, ⊎-elim}
+use Prim.Native.Nat.{ℕ, _+_, _-_, _*_, _^_, _/_, _%_, _<_, _≤_}
 use native.Mathlib.Nat.{add-comm, zero-add, mul-comm, mul-one, mod-eq-of-lt, mod-mod, div-eq-of-lt, div-add-mod}
 use native.Mathlib.Omega.{arith}
 use lib.Bits.{bitXor, xor-assoc, xor-comm, xor-self, xor-zero-r, xor-mod, xor-shr, xor-lt}
 use lib.Count.{ones, onesIn}
-use lib.Dec.{ltb, eqb}
+use lib.Dec.{eqb}
 use lib.ListN.{length, getD}
-use lib.Pow.{pow-pos, pow-lt, pow-add}
+use lib.Pow.{pow-pos, pow-add}
 use Rattle.std.proofs.shelf.Bits.{shl-shr, mod-low, pow-below, shr-below, mod-below, mul-add-lt, div-mul-add, mod-mul-add}
 use Rattle.std.proofs.shelf.Tests.{cases-lt, cases-eq, cases-order, lt-ltb, le-ltb, eq-eqb, ne-eqb, cond-true, cond-false, cond-both}
 use Rattle.code.specs.Codes.{CodeModel, CodeLaws, column, picked, generated, codeword, syndrome, located, told, found, powers, by-count}
-use Rattle.code.specs.Decoding.{cell-column, at-cell, corrected, decoded}
-use Rattle.code.specs.declared.syndromes.Located.{Located}
+use Rattle.code.specs.Decoding.{cell-column, at-cell}
 use Rattle.code.specs.declared.syndromes.Located.the-variants.{Clean, Data, Check, Two, Many}
 use Rattle.code.proofs.Picked.{picked-xor, picked-power, picked-below}
 use Rattle.code.proofs.Parity.{ones-xor, ones-power}

@@ -1,9 +1,9 @@
 -- Where a number stands in a list. Assumes nothing.
 use mathlib.Core.Path.{_≡_, refl, sym, ap, _∙_}
-use mathlib.Core.Logic.{_⊎_, inl, inr, ⊎-elim}
+use mathlib.Core.Logic.{_⊎_, ⊎-elim}
 use mathlib.Core.List.{List, [], _∷_}
 use Prim.Native.Nat.{ℕ, zero, suc, _+_, _*_, _^_, _<_}
-use native.Mathlib.Nat.{add-zero, add-suc, suc-add, zero-lt-suc, suc-le-suc-iff, le-of-suc-le-suc, not-suc-le-zero, one-mul, mul-assoc, pow-suc}
+use native.Mathlib.Nat.{add-zero, add-suc, suc-add, le-of-suc-le-suc, not-suc-le-zero, one-mul, mul-assoc, pow-suc}
 use native.Mathlib.Omega.{arith}
 use lib.ListN.{length, getD}
 use Rattle.std.proofs.shelf.Tests.{cases-eq, eq-eqb, ne-eqb, cond-true, cond-false}

@@ -1,19 +1,19 @@
 -- The marks of the 64-bit code lead to the same data as its located cells. Assumes nothing.
-use mathlib.Core.Path.{_≡_, refl, sym, ap, _∙_}
+use mathlib.Core.Path.{_≡_, refl, _∙_}
 use mathlib.Core.Bool.{Bool, true, _&&_}
 use mathlib.Core.List.{List}
 use Prim.Native.Nat.{ℕ, _+_, _-_, _%_, _<_}
 use native.Mathlib.Omega.{arith}
 use lib.Count.{ones, onesIn}
 use lib.Dec.{eqb, lit<}
-use lib.ListN.{length, getD}
+use lib.ListN.{length}
 use Rattle.std.proofs.shelf.Tests.{eqb-true, and-parts, lt-ltb, le-ltb, cond-true, cond-false, cond-both}
-use Rattle.code.specs.Codes.{CodeLaws, located, by-count}
+use Rattle.code.specs.Codes.{CodeLaws, located}
 use Rattle.code.specs.Decoding.{at-cell, corrected}
 use Rattle.code.specs.Marks.{mark, Marks64, followed}
 use Rattle.code.specs.Tables.{code64, columns64}
 use Rattle.code.specs.declared.syndromes.Located.{Located}
-use Rattle.code.specs.declared.syndromes.Located.the-variants.{Clean, Data, Check, Two, Many}
+use Rattle.code.specs.declared.syndromes.Located.the-variants.{Two, Many}
 use Rattle.code.proofs.Distances.{Cell, of-data, of-check, cell-of, Says, clean, cell, far, says}
 use Rattle.code.proofs.Entries.{every, entry}
 use Rattle.code.proofs.Lawful.{lawful}

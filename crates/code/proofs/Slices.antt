@@ -1,14 +1,14 @@
 -- The two slices make the check bits of the whole word. Assumes nothing.
-use mathlib.Core.Path.{_≡_, refl, sym, ap, _∙_}
-use Prim.Native.Nat.{ℕ, _^_, _/_, _%_, _<_}
-use lib.Bits.{bitXor, xor-assoc, xor-lt}
+use mathlib.Core.Path.{_≡_, refl}
+use Prim.Native.Nat.{ℕ, _^_, _/_, _<_}
+use lib.Bits.{xor-assoc, xor-lt}
 use lib.Dec.{lit<, lit≤, ltb}
 use lib.ListN.{length, getD, take, drop}
 use Rattle.std.proofs.shelf.Lists.{take-append-drop}
 use Rattle.std.proofs.shelf.Tests.{ltb-true}
 use Rattle.code.specs.Codes.{picked, generated}
 use Rattle.code.specs.Tables.{columns64, inverted, code64}
-use Rattle.code.specs.Cascade.{lower-slice, upper-slice, sliced, Same-as-single}
+use Rattle.code.specs.Cascade.{lower-slice, sliced, Same-as-single}
 use Rattle.code.proofs.Entries.{entry}
 use Rattle.code.proofs.Picked.{picked-append, picked-mod, picked-below}
 

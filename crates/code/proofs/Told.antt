@@ -1,11 +1,11 @@
 -- What a syndrome says that belongs to no cell. Assumes nothing.
-use mathlib.Core.Path.{_≡_, refl, sym, ap, _∙_}
+use mathlib.Core.Path.{_≡_, refl, sym, _∙_}
 use mathlib.Core.List.{List, [], _∷_}
 use Prim.Native.Nat.{ℕ, suc, _%_}
 use Rattle.std.proofs.shelf.Tests.{ne-eqb, eq-eqb, cond-true, cond-false}
 use lib.Count.{ones}
 use Rattle.code.specs.Codes.{told, found, powers, by-count}
-use Rattle.code.specs.declared.syndromes.Located.the-variants.{Clean, Data, Check, Two, Many}
+use Rattle.code.specs.declared.syndromes.Located.the-variants.{Data, Check, Two, Many}
 
 -- s is none of the list's
 abbrev pub Absent : ℕ → List ℕ → Type 0

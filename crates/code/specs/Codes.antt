@@ -1,7 +1,7 @@
 -- A code by its columns: what it generates, what its syndromes say, and the laws it keeps. Assumes nothing.
 use mathlib.Core.Path.{_≡_}
 use mathlib.Core.List.{List, [], _∷_}
-use mathlib.Core.Bool.{Bool, true, false, cond}
+use mathlib.Core.Bool.{cond}
 use Prim.Native.Nat.{ℕ, zero, suc, _+_, _*_, _^_, _/_, _%_, _<_, _≤_}
 use lib.Bits.{bitXor}
 use lib.Count.{ones}

@@ -1,6 +1,6 @@
 use mathlib.Core.Path.{refl, _∙_}
 use lib.Dec.{lit≤}
-use Rattle.code.specs.Tables.{columns64, inverted}
+use Rattle.code.specs.Tables.{columns64}
 use Rattle.code.specs.Cascade.{upper-order}
 use Rattle.code.proofs.LaneShares.{gathered-all}
 use Rattle.code.proofs.cascaded.upper_slice.Needs as need

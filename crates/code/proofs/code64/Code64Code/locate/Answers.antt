@@ -1,6 +1,5 @@
-use mathlib.Core.Path.{_≡_, sym, ap, _∙_}
-use Prim.Native.Nat.{_<_, _^_, _%_}
-use native.Mathlib.Nat.{mod-eq-of-lt}
+use mathlib.Core.Path.{_≡_, ap, _∙_}
+use Prim.Native.Nat.{_^_, _%_}
 use native.Mathlib.Omega.{arith}
 use Rattle.code.specs.Codes.{told}
 use Rattle.code.specs.Tables.{columns64, table64}
