@@ -10,6 +10,7 @@ pub use commands::Command;
 pub use commands::Field;
 pub use parsing::parse;
 pub use running::Report;
+pub use running::ReportDebug;
 pub use running::run;
 pub use session::OUTPUT;
 pub use session::SCRIPT_MOST;
