@@ -9,6 +9,7 @@ mod session;
 pub use commands::Command;
 pub use commands::Field;
 pub use parsing::parse;
+pub use running::LINE_MOST;
 pub use running::Report;
 pub use running::ReportDebug;
 pub use running::run;

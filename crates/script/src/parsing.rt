@@ -1,8 +1,8 @@
 // From a line to a call.
 ghost use mathlib.Core.List.{List, _∷_, _++_};
 ghost use mathlib.Core.Path.{_≡_};
-ghost use Prim.Native.Nat.{ℕ, _*_, _^_, _<_, _≤_};
 ghost use Rattle.std.specs.Options.{Cases};
+ghost use Prim.Native.Nat.{ℕ, _*_, _^_, _<_, _≤_};
 ghost use Rattle.unit.specs.declared.calls.Call.{Call as Called};
 ghost use Rattle.script.specs.Hex.{hex};
 ghost use Rattle.script.specs.Texts.{letter-of, fields-of, line-of};

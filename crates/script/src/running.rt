@@ -17,6 +17,9 @@ use unit::Unit;
 use word::Fault;
 use word::Refusal;
 
+// No line of output is longer; with less room than this left, a run stops.
+pub const LINE_MOST: usize = 32;
+
 // How a run ended.
 #[derive(Clone, Copy, PartialEq, Eq, Debug)]
 pub struct Report {
@@ -71,7 +74,7 @@ pub fn run<C: Code, D: Card>(unit: &mut Unit<C, D>, script: &[u8], out: &mut [u8
     let mut at = 0;
     let mut lines = 0;
     while from < script.len() {
-        if out.len() - at < 32 {
+        if out.len() - at < LINE_MOST {
             return Report {
                 lines,
                 written: at,

@@ -1,13 +1,13 @@
 // The stories: lines, the answers that the rules make of them, and why.
 
-pub struct Step {
-    pub line: &'static str,
-    pub expected: &'static str,
-    pub why: &'static str,
+pub struct Step<'a> {
+    pub line: &'a str,
+    pub expected: &'a str,
+    pub why: &'a str,
 }
 
 // One word through the orders of flips, scrubs and refused partial writes.
-pub const HARD_ORDERS: [Step; 43] = [
+pub const HARD_ORDERS: [Step<'static>; 43] = [
     Step {
         line: "W 0005 00000000000000ff\n",
         expected: "ok\n",
@@ -226,7 +226,7 @@ pub const HARD_ORDERS: [Step; 43] = [
 ];
 
 // Each refusal of a unit, with place, depth and way.
-pub const NARROW: [Step; 13] = [
+pub const NARROW: [Step<'static>; 13] = [
     Step {
         line: "R 0003\n",
         expected: "! 1 0003 00 0000\n",
@@ -295,7 +295,7 @@ pub const NARROW: [Step; 13] = [
 ];
 
 // Faults that come up through a pair.
-pub const CASCADE: [Step; 8] = [
+pub const CASCADE: [Step<'static>; 8] = [
     Step {
         line: "R 0000\n",
         expected: "! 7 0000 02 0000\n",
@@ -338,8 +338,52 @@ pub const CASCADE: [Step; 8] = [
     },
 ];
 
+// Faults that come up from the high side, and flips in both halves.
+pub const HALVES: [Step<'static>; 8] = [
+    Step {
+        line: "R 0000\n",
+        expected: "! 7 0000 02 0001\n",
+        why: "the high card's fault: raw zeros have even parity; up through the pair and the unit, from the high side",
+    },
+    Step {
+        line: "W 0000 0123456789abcdef\n",
+        expected: "ok\n",
+        why: "",
+    },
+    Step {
+        line: "R 0000\n",
+        expected: "= 0123456789abcdef\n",
+        why: "",
+    },
+    Step {
+        line: "I 0000 28\n",
+        expected: "ok\n",
+        why: "cell 40, the lowest of the high half",
+    },
+    Step {
+        line: "R 0000\n",
+        expected: "= 0123456789abcdef\n",
+        why: "put right",
+    },
+    Step {
+        line: "I 0000 00\n",
+        expected: "ok\n",
+        why: "cell 0, the lowest of the low half",
+    },
+    Step {
+        line: "R 0000\n",
+        expected: "! 5 0000 00 0000\n",
+        why: "two upset, one in each half: the unit's own refusal",
+    },
+    Step {
+        line: "R 0002\n",
+        expected: "! 1 0002 00 0000\n",
+        why: "both byte cards have two places",
+    },
+];
+
 // A unit below a unit.
-pub const NESTED: [Step; 8] = [
+pub const NESTED: [Step<'static>; 8] = [
     Step {
         line: "R 0000\n",
         expected: "= 0000000000000000\n",

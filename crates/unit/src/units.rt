@@ -136,6 +136,13 @@ impl<C: Code, D: Card> Unit<C, D> {
         self.log.first()
     }
 
+    // The card below, to look at: a unit there has a log of its own.
+    pub fn below(&self) -> &D
+        ensures { λ r. ⌜ now r ≡ now (self .entry) .card ⌝ }
+    {
+        &self.card
+    }
+
     // The log becomes a new one.
     pub fn clear(&mut self)
         ensures { λ _. ⌜ state-of (D·Card .state) (now (self .exit)) ≡ record { log = new-log; card = D·Card .state (now (self .entry) .card) } ⌝ }

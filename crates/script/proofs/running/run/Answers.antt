@@ -12,13 +12,13 @@ use Rattle.script.proofs.GoingOn.{goes-on}
 use Rattle.script.proofs.RunFacts.{lines-some, run-done, run-stopped, run-again, behind-kept}
 use Rattle.script.proofs.running.run.Needs as need
 
-pub returns-then-out-at-lt32 : need.returns-then-out-at-lt32
-returns-then-out-at-lt32 g c =
+pub returns-then-out-at-lt-LINE-MOST : need.returns-then-out-at-lt-LINE-MOST
+returns-then-out-at-lt-LINE-MOST g c =
     let l = c .loop-from in
     let xs = drop (l .from) (c .args .script .now) in
     let some : 0 < length xs = rw (length-drop (l .from) (c .args .script .now)) (omega arith) in
     let first = lines-some xs some in
-    let ran = run-stopped (g .C·Code .code) (g .D·Card .model) (state-of (g .D·Card .state) (c .args .unit .now)) (length (c .args .out .now)) (lines (c .args .script .now)) (state-of (g .D·Card .state) (l .unit)) (length (l .out) - l .at) xs (take (l .at) (l .out)) (l .lines) (l .inv .5) (first .0) (first .1) (first .2) (c .if-out-at-lt32 .taken) in
+    let ran = run-stopped (g .C·Code .code) (g .D·Card .model) (state-of (g .D·Card .state) (c .args .unit .now)) (length (c .args .out .now)) (lines (c .args .script .now)) (state-of (g .D·Card .state) (l .unit)) (length (l .out) - l .at) xs (take (l .at) (l .out)) (l .lines) (l .inv .5) (first .0) (first .1) (first .2) (c .if-out-at-lt-LINE-MOST .taken) in
     record {
       ran = ran;
       promise = goes-on (g .C·Code .code) (g .D·Card .model) (g .C·Code·met .lawful) (g .D·Card·met .laws) _ _ _ _ _ _ ran refl refl;
@@ -41,7 +41,7 @@ loop-from-again g c =
       omega (arith, c .print-at .ensures .behind),
       same ∙ l .inv .3,
       behind-kept (g .C·Code .code) (g .D·Card .model) (c .args .out .now) (l .out) (c .print-at .last .out) (answer-text (c .answer-to-answer .result)) (l .at) (c .print-at .result) inside (c .print-at .ensures) (l .inv .4),
-      run-again (g .C·Code .code) (g .D·Card .model) (state-of (g .D·Card .state) (c .args .unit .now)) (state-of (g .D·Card .state) (l .unit)) (state-of (g .D·Card .state) (c .answer-to-answer .last .unit)) (length (c .args .out .now)) (c .args .script .now) (l .out) (c .print-at .last .out) (take (length (c .args .script .now) - l .from) (drop (l .from) (c .args .script .now))) (l .from) (l .at) (c .print-at .result) (l .lines) (long .result) (c .asked-call .result) (l .inv .5) (c .loop-from-test .taken) (c .if-out-at-lt32 .left) inside refl (long .ensures .within) (long .ensures .before) (long .ensures .found) (c .asked-call .ensures) (c .answer-to-answer .ensures .after) written same,
+      run-again (g .C·Code .code) (g .D·Card .model) (state-of (g .D·Card .state) (c .args .unit .now)) (state-of (g .D·Card .state) (l .unit)) (state-of (g .D·Card .state) (c .answer-to-answer .last .unit)) (length (c .args .out .now)) (c .args .script .now) (l .out) (c .print-at .last .out) (take (length (c .args .script .now) - l .from) (drop (l .from) (c .args .script .now))) (l .from) (l .at) (c .print-at .result) (l .lines) (long .result) (c .asked-call .result) (l .inv .5) (c .loop-from-test .taken) (c .if-out-at-lt-LINE-MOST .left) inside refl (long .ensures .within) (long .ensures .before) (long .ensures .found) (c .asked-call .ensures) (c .answer-to-answer .ensures .after) written same,
     )
 
 pub returns : need.returns
