@@ -45,7 +45,8 @@ impl<C: Code, D: Card> Unit<C, D> {
             return Err(Fault::arise(Refusal::Place, place));
         }
         if !word.fits(self.code.data_width()) {
-            return Err(Fault::arise(Refusal::Wide, place));
+            let wide = Fault::arise(Refusal::Wide, place);
+            return Err(wide);
         }
         if enables as u16 >= 1u16 << self.lanes() {
             return Err(Fault::arise(Refusal::Enable, place));
@@ -64,16 +65,20 @@ impl<C: Code, D: Card> Unit<C, D> {
         ensures answer { λ r. ⌜ r ≡ kept (C·Code .code) (D·Card .model) (state-of (D·Card .state) (now (self .entry))) place new enables .answer ⌝ }
         ensures after { λ _. ⌜ state-of (D·Card .state) (now (self .exit)) ≡ kept (C·Code .code) (D·Card .model) (state-of (D·Card .state) (now (self .entry))) place new enables .state ⌝ }
     {
-        let old = self.read(place)?;
-        let joined = merge_words(enables, old.low, new);
-        self.write(
-            place,
-            Word {
-                low: joined,
-                top: 0,
-            },
-        )?;
-        Ok(Some(old))
+        match self.read(place) {
+            Ok(old) => {
+                let joined = merge_words(enables, old.low, new);
+                self.write(
+                    place,
+                    Word {
+                        low: joined,
+                        top: 0,
+                    },
+                )?;
+                Ok(Some(old))
+            }
+            Err(met) => Err(met),
+        }
     }
 
     // A merge that keeps every lane: stores the word that it read, put right, with fresh check bits, and gives it.

@@ -9,16 +9,16 @@ pub returns-in-Break-write : need.returns-in-Break-write
 returns-in-Break-write g c =
     let s = state-of (g .D·Card .state) (c .args .self .now) in
     let t = state-of (g .D·Card .state) (c .read .last .self) in
-    let granted = merge-granted (g .C·Code .code) (g .D·Card .model) (g .C·Code·met .lawful) (g .D·Card·met .laws) s (c .args .place) (c .pre .0) (c .args .new) (c .args .enables) (c .pre .1) (c .in-Continue-old .old) (c .in-Continue-old .ensures tt .answer) t (c .read .ensures .after) (record { low = c .merge-words-joined .result; top = 0 }) (ap (λ j. record { low = j; top = 0 }) (c .merge-words-joined .ensures)) in
+    let granted = merge-granted (g .C·Code .code) (g .D·Card .model) (g .C·Code·met .lawful) (g .D·Card·met .laws) s (c .args .place) (c .pre .0) (c .args .new) (c .args .enables) (c .pre .1) (c .in-Ok .old) (c .in-Ok .ensures tt .answer) t (c .read .ensures .after) (record { low = c .merge-words-joined .result; top = 0 }) (ap (λ j. record { low = j; top = 0 }) (c .merge-words-joined .ensures)) in
     let never = sym (c .in-Break-write .was tt) ∙ c .write .ensures .answer ∙ granted in
     let z : _≡_ {A = ℕ} 0 1 = cc in
     absurd (omega arith)
 
-pub returns : need.returns
-returns g c =
+pub returns-in-Continue-write : need.returns-in-Continue-write
+returns-in-Continue-write g c =
     let s = state-of (g .D·Card .state) (c .args .self .now) in
     let t = state-of (g .D·Card .state) (c .read .last .self) in
     record {
-      answer = merge-sound (g .C·Code .code) (g .D·Card .model) (g .C·Code·met .lawful) (g .D·Card·met .laws) s (c .args .place) (c .pre .0) (c .args .new) (c .args .enables) (c .pre .1) (c .in-Continue-old .old) (c .in-Continue-old .ensures tt .answer) t (c .read .ensures .after);
-      after = merge-done (g .C·Code .code) (g .D·Card .model) (g .C·Code·met .lawful) (g .D·Card·met .laws) s (c .args .place) (c .pre .0) (c .args .new) (c .args .enables) (c .pre .1) (c .in-Continue-old .old) (c .in-Continue-old .ensures tt .answer) t (c .read .ensures .after) (record { low = c .merge-words-joined .result; top = 0 }) (ap (λ j. record { low = j; top = 0 }) (c .merge-words-joined .ensures)) (state-of (g .D·Card .state) (c .write .last .self)) (c .write .ensures .after);
+      answer = merge-sound (g .C·Code .code) (g .D·Card .model) (g .C·Code·met .lawful) (g .D·Card·met .laws) s (c .args .place) (c .pre .0) (c .args .new) (c .args .enables) (c .pre .1) (c .in-Ok .old) (c .in-Ok .ensures tt .answer) t (c .read .ensures .after);
+      after = merge-done (g .C·Code .code) (g .D·Card .model) (g .C·Code·met .lawful) (g .D·Card·met .laws) s (c .args .place) (c .pre .0) (c .args .new) (c .args .enables) (c .pre .1) (c .in-Ok .old) (c .in-Ok .ensures tt .answer) t (c .read .ensures .after) (record { low = c .merge-words-joined .result; top = 0 }) (ap (λ j. record { low = j; top = 0 }) (c .merge-words-joined .ensures)) (state-of (g .D·Card .state) (c .write .last .self)) (c .write .ensures .after);
     }
