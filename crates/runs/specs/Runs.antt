@@ -39,3 +39,7 @@ module _ (c : CodeModel) (m : CardModel) where
   -- so it is after every list of calls on a new unit over every state of the card
   abbrev pub Runs-keep : Type 0
   Runs-keep = (t : m .State) (calls : List Call) → Kept (past [] calls (answers (new-unit t) calls)) (final (new-unit t) calls)
+
+-- some calls and their answers led a new unit to a state at which the promise holds
+abbrev pub Promised : (c : CodeModel) (m : CardModel) → List Call → List Answer → Type 0
+Promised c m calls told = (s : UnitState (m .State)) × Kept c m (past [] calls told) s
