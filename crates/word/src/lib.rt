@@ -1,4 +1,6 @@
 // Words, their lanes, and the faults with which a call is refused.
+#![tactic(auto)]
+
 mod faults;
 mod lanes;
 mod refusals;

@@ -10,10 +10,10 @@ loop-layer-preserved c =
     elim c.match-layer.branch [
       | in-Some w ↦
           over_next c.args.layers.now c.loop-layer.layer-index (Some w.in-Some.side) c.args.start c.loop-layer.fault c.match-layer.fault
-          c.loop-layer-test.true w.in-Some.is c.loop-layer.invariant (w.fault-is ∙ w.pass-up-from-fault.ensures)
+          c.loop-layer-test.true w.in-Some.is c.loop-layer.invariant (w.fault-is ∙ w.pass_up_from-fault.ensures)
       | in-None w ↦
           over_next c.args.layers.now c.loop-layer.layer-index None c.args.start c.loop-layer.fault c.match-layer.fault
-          c.loop-layer-test.true w.in-None.is c.loop-layer.invariant (w.fault-is ∙ w.pass-up-fault.ensures)
+          c.loop-layer-test.true w.in-None.is c.loop-layer.invariant (w.fault-is ∙ w.pass_up-fault.ensures)
     ]
 
 pub returns : goal.returns

@@ -3,8 +3,8 @@ use native.Mathlib.Nat.{mod-le}
 use Rattle.word.proofs.Values.{mod_held, power_held}
 use Rattle.word.proofs.words.cells_below.Goals as goal
 
-pub nonzero-rem-result : goal.nonzero-rem-result
-nonzero-rem-result c = rw c.min.ensures (power_held c.args.at)
+pub nonzero_rem-result : goal.nonzero_rem-result
+nonzero_rem-result c = rw c.min.ensures (power_held c.args.at)
 
 pub returns : goal.returns
 returns c =

@@ -1,4 +1,4 @@
-use Rattle.std.proofs.Common.{◌-◌, ◌^◌, ◌<◌, arith}
+use Rattle.std.proofs.Common.{◌^◌, ◌<◌, arith}
 use Rattle.word.proofs.Values.{flipped_low, flipped_top}
 use Rattle.word.proofs.words.Word.flip.Goals as goal
 
