@@ -1,4 +1,6 @@
 // Cards: memories that are reached by four calls, and by nothing else.
+#![tactic(auto)]
+
 mod buffers;
 mod builtin;
 mod byte;
