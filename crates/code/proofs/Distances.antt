@@ -1,5 +1,5 @@
 -- What the laws of a code give: syndromes of flipped words, and how far codewords lie apart. Assumes nothing.
-use Rattle.std.proofs.Common.{◌≡◌, ℕ, ◌+◌, ◌-◌, ◌*◌, ◌/◌, ◌%◌, ◌^◌, ◌<◌, ◌≤◌, eqb, ◌⊎◌, length, get_or, sym, refl, ap, ◌∙◌, ⊎_elim, mod-eq_of_lt, mul_comm, add_comm, zero-add, mul-one, arith, pow_pos, pow-add}
+use Rattle.std.proofs.Common.{◌≡◌, ℕ, ◌+◌, ◌-◌, ◌*◌, ◌/◌, ◌%◌, ◌^◌, ◌<◌, ◌≤◌, eqb, length, get_or, sym, refl, ap, ◌∙◌, ⊎_elim, mod-eq_of_lt, mul_comm, add_comm, zero-add, mul-one, arith, pow_pos, pow-add}
 use native.Mathlib.Nat.{mod-mod, div-eq_of_lt, div-add-mod}
 use lib.Bits.{bit_xor, xor_assoc, xor_comm, xor_self, xor_zero_r, xor_mod, xor_shr, xor_lt}
 use lib.Count.{ones, ones_in}

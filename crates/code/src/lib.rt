@@ -1,4 +1,6 @@
 // What a code is: check bits for a data word, what a syndrome says of a raw word, and what follows from the laws.
+#![tactic(auto)]
+
 mod codes;
 mod decoding;
 mod promises;
