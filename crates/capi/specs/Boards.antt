@@ -7,7 +7,7 @@ use Rattle.word.specs.declared.faults.Fault.{Fault}
 use Rattle.codes.specs.Tables.{code64}
 use Rattle.card.specs.Cards.{CardModel}
 use Rattle.card.specs.Bytes.{ByteState, byte_card, lent}
-use Rattle.log.specs.Logs.{new_log}
+use Rattle.error_log.specs.Logs.{new_log}
 use Rattle.parts.specs.Units.{UnitState, unit_card}
 
 -- a 64-bit unit over a byte card of 72 cells

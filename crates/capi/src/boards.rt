@@ -3,12 +3,12 @@
 ghost use Rattle.std.specs.Prelude.{◌≡◌};
 ghost use Rattle.card.specs.Cards.{read_answer, read_state, write_answer, write_state};
 ghost use Rattle.codes.specs.Tables.{code64};
-ghost use Rattle.log.specs.Logs.{log_word};
+ghost use Rattle.error_log.specs.Logs.{log_word};
 ghost use Rattle.capi.specs.Boards.{board, over, read_status, read_data, write_status};
 
 use card::ByteCard;
 use codes::Code64;
-use log::Log;
+use error_log::Log;
 use parts::{log_word, read_over, write_over};
 use word::{Fault, Word};
 

@@ -1,6 +1,6 @@
 // Calls, answers and the promise's words as text.
 use audit::{Due, Watch};
-use log::FirstError;
+use error_log::FirstError;
 use std::fmt;
 use unit::{Answer, Call};
 use word::{Fault, Refusal, Word};

@@ -3,7 +3,7 @@ use Rattle.std.specs.Prelude.{ℕ, List, [], ◌∷◌, ◌++◌, Some, None, Op
 use Rattle.word.specs.Faults.{number_of}
 use Rattle.word.specs.declared.words.Word.{Word}
 use Rattle.word.specs.declared.faults.Fault.{Fault}
-use Rattle.log.specs.declared.records.FirstError.{FirstError}
+use Rattle.error_log.specs.declared.records.FirstError.{FirstError}
 use Rattle.unit.specs.declared.calls.Call.{Call}
 use Rattle.unit.specs.declared.calls.Call.TheVariants.{Read, Write, Merge, Scrub, Inject, Log, First, Clear}
 use Rattle.unit.specs.declared.calls.Answer.{Answer}

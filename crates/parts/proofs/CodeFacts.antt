@@ -11,7 +11,7 @@ use Rattle.code.proofs.Distances.{codeword_below, check_below}
 use Rattle.code.proofs.Decoded.{decodes_near, decoded_codeword}
 use Rattle.card.specs.Cards.{Entry, holds, faulty, Within}
 use Rattle.parts.specs.Units.{told, unit_entry, cut}
-use Rattle.log.specs.declared.records.RawWord.{RawWord}
+use Rattle.error_log.specs.declared.records.RawWord.{RawWord}
 
 module _ (c : CodeModel) (laws : CodeLaws c) where
   -- what is decoded is below 2 ^ n

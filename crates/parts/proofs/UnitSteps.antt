@@ -9,7 +9,7 @@ use Rattle.word.specs.declared.faults.Fault.{Fault}
 use Rattle.word.proofs.Values.{value_of_value}
 use Rattle.code.specs.Codes.{CodeModel, CodeLaws, codeword}
 use Rattle.card.specs.Cards.{CardModel, CardLaws, Entry, holds, faulty, Within, shown, read_answer, read_state, write_answer, write_state}
-use Rattle.log.specs.Logs.{LogState}
+use Rattle.error_log.specs.Logs.{LogState}
 use Rattle.parts.specs.Units.{UnitState, unit_card, unit_entry, logged, injecting, injected, merging, kept, merged}
 use Rattle.card.proofs.CardFacts.{read_entered, read_leads, read_within, write_granted, write_leads}
 use Rattle.parts.specs.Merges.{joined}

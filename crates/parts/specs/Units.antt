@@ -9,9 +9,9 @@ use Rattle.word.specs.declared.refusals.Refusal.TheVariants.{Place as PLACE, Wid
 use Rattle.code.specs.Codes.{CodeModel, codeword, syndrome}
 use Rattle.code.specs.Decoding.{decoded}
 use Rattle.card.specs.Cards.{CardModel, Entry, holds, faulty}
-use Rattle.log.specs.Logs.{LogState, new_log, noted}
+use Rattle.error_log.specs.Logs.{LogState, new_log, noted}
 use Rattle.parts.specs.Merges.{joined}
-use Rattle.log.specs.declared.records.RawWord.{RawWord}
+use Rattle.error_log.specs.declared.records.RawWord.{RawWord}
 
 -- a raw word cut at the data width
 abbrev pub cut : CodeModel → ℕ → RawWord

@@ -3,11 +3,11 @@ ghost use Rattle.std.specs.Prelude.{◌≡◌, ◌+◌, ◌^◌, ◌<◌};
 ghost use Rattle.word.specs.Words.{value, of_value};
 ghost use Rattle.code.specs.Codes.{generated, codeword};
 ghost use Rattle.card.specs.Cards.{holds, shown};
-ghost use Rattle.log.specs.Logs.{log_of};
+ghost use Rattle.error_log.specs.Logs.{log_of};
 ghost use Rattle.parts.specs.Units.{cut, unit_entry, logged};
 
 use code::{Code, correct, syndrome_of};
-use log::{Log, RawWord};
+use error_log::{Log, RawWord};
 use word::{Fault, Word};
 
 // The check bits of some data, as a word.

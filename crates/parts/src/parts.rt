@@ -2,13 +2,13 @@
 ghost use Rattle.std.specs.Prelude.{◌≡◌};
 ghost use Rattle.word.specs.Words.{value};
 ghost use Rattle.card.specs.Cards.{read_answer, read_state, write_answer, write_state};
-ghost use Rattle.log.specs.Logs.{log_of, new_log, log_word};
+ghost use Rattle.error_log.specs.Logs.{log_of, new_log, log_word};
 ghost use Rattle.parts.specs.Units.{unit_card};
 
 use crate::decoding::{lay, take};
 use card::Card;
 use code::Code;
-use log::Log;
+use error_log::Log;
 use word::{Fault, Refusal, Word};
 
 // How many places a unit has over this card: all of them where its raw words fit, else none.

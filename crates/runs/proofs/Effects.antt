@@ -12,7 +12,7 @@ use Rattle.code.specs.Codes.{CodeModel, CodeLaws, codeword}
 use Rattle.code.proofs.Distances.{codeword_below}
 use Rattle.card.specs.Cards.{CardModel, CardLaws, Entry, holds, faulty, Within, shown, read_answer, read_state, write_answer, write_state}
 use Rattle.card.proofs.CardFacts.{read_entered, read_leads, write_granted, write_leads}
-use Rattle.log.specs.Logs.{new_log}
+use Rattle.error_log.specs.Logs.{new_log}
 use Rattle.parts.specs.Merges.{joined}
 use Rattle.parts.specs.Units.{UnitState, Outcome, unit_card, unit_entry, refused, injecting, injected, merging, kept, writing, merged, scrubbed, all_lanes}
 use Rattle.unit.specs.Steps.{step, read_told, done_told, merge_told}

@@ -7,7 +7,7 @@ use Rattle.layers.specs.ParityLaws.{parity_laws}
 use Rattle.parts.specs.Units.{UnitState, unit_card}
 use Rattle.runs.specs.Stacks.{Stack, one, other, unit, pair, parity, stacked, WorkedOut, StacksStand}
 use Rattle.std.proofs.lemmas.Bool.{cases_Bool}
-use Rattle.log.specs.Logs.{LogState}
+use Rattle.error_log.specs.Logs.{LogState}
 use Rattle.unit.specs.Steps.{step}
 use Rattle.runs.specs.Histories.{Made, History, past}
 use Rattle.runs.specs.Promises.{meets, is_clear, Owed, AllOwed, Counts}

@@ -8,15 +8,15 @@ use Rattle.std.proofs.lemmas.Bool.{cases_eq, cond-true, cond-false, cond_both, l
 use Rattle.code.specs.Codes.{CodeModel, CodeLaws, syndrome}
 use Rattle.code.proofs.Distances.{check_below, syndrome_below}
 use Rattle.card.specs.Cards.{CardModel, CardLaws, Entry, holds, faulty, Within, read_state, write_state}
-use Rattle.log.specs.Kinds.{kind_bits, kind_of}
-use Rattle.log.specs.Logs.{LogState, new_log, noted, log_word, error_half, taken_half}
+use Rattle.error_log.specs.Kinds.{kind_bits, kind_of}
+use Rattle.error_log.specs.Logs.{LogState, new_log, noted, log_word, error_half, taken_half}
 use Rattle.parts.specs.Units.{UnitState, Outcome, unit_card, cut, logged, merging, merged, injecting, all_lanes}
 use Rattle.unit.specs.Steps.{step}
 use Rattle.runs.specs.Histories.{History, upset, upset_cells, is_in_hand}
 use Rattle.runs.specs.Promises.{meets, is_clear}
-use Rattle.log.specs.declared.records.Kind.{Kind}
-use Rattle.log.specs.declared.records.Kind.TheVariants.{Quiet, Damaged, Single}
-use Rattle.log.specs.declared.records.RawWord.{RawWord}
+use Rattle.error_log.specs.declared.records.Kind.{Kind}
+use Rattle.error_log.specs.declared.records.Kind.TheVariants.{Quiet, Damaged, Single}
+use Rattle.error_log.specs.declared.records.RawWord.{RawWord}
 use Rattle.unit.specs.declared.calls.Call.{Call}
 use Rattle.unit.specs.declared.calls.Call.TheVariants.{Read, Write, Merge, Scrub, Inject, Log, First, Clear}
 use Rattle.runs.proofs.Effects.{places, merge_ways, kept_place, lane_some}

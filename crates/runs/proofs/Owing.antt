@@ -11,7 +11,7 @@ use Rattle.word.specs.declared.refusals.Refusal.TheVariants.{Cell as CELL, Two a
 use Rattle.code.specs.Codes.{CodeModel, CodeLaws, codeword, syndrome}
 use Rattle.card.specs.Cards.{CardModel, CardLaws, Entry, holds, faulty, shown}
 use Rattle.card.proofs.CardFacts.{read_entered}
-use Rattle.log.specs.Logs.{LogState, log_word}
+use Rattle.error_log.specs.Logs.{LogState, log_word}
 use Rattle.parts.specs.Units.{UnitState, Outcome, unit_card, unit_entry, cut, logged, merging, kept, merged, injecting, injected, all_lanes}
 use Rattle.unit.specs.Steps.{step, read_told, done_told, merge_told}
 use Rattle.runs.specs.Histories.{Made, History, upset, upset_cells, is_in_hand, last_laid}

@@ -2,7 +2,7 @@
 use Rattle.std.specs.Prelude.{◌≡◌, ℕ, List, [], ◌∷◌}
 use Rattle.code.specs.Codes.{CodeModel}
 use Rattle.card.specs.Cards.{CardModel, CardLaws}
-use Rattle.log.specs.Logs.{new_log}
+use Rattle.error_log.specs.Logs.{new_log}
 use Rattle.parts.specs.Units.{UnitState, unit_card}
 use Rattle.runs.specs.Stacks.{StacksStand}
 use Rattle.unit.specs.Steps.{step}

@@ -6,7 +6,7 @@ ghost use Rattle.card.specs.Builtin.{builtin_card, blank};
 ghost use Rattle.card.specs.Bytes.{byte_card};
 ghost use Rattle.layers.specs.Pairs.{pair_card};
 ghost use Rattle.layers.specs.Parities.{parity_card};
-ghost use Rattle.log.specs.Logs.{new_log};
+ghost use Rattle.error_log.specs.Logs.{new_log};
 ghost use Rattle.parts.specs.Units.{unit_card};
 ghost use Rattle.runs.specs.Runs.{new_unit, answers as answers-to, Promised};
 

@@ -6,7 +6,7 @@ use Rattle.codes.specs.Tables.{code64}
 use Rattle.card.specs.Cards.{write_state}
 use Rattle.card.specs.Builtin.{Builtin, builtin_card, no_word}
 use Rattle.card.proofs.CardFacts.{write_leads}
-use Rattle.log.specs.Logs.{new_log}
+use Rattle.error_log.specs.Logs.{new_log}
 use Rattle.parts.specs.Units.{UnitState, unit_card}
 use Rattle.script.specs.Sessions.{raw_zero, laid_out, fresh}
 

@@ -5,7 +5,7 @@ use Rattle.word.specs.declared.words.Word.{Word}
 use Rattle.code.specs.Codes.{codeword}
 use Rattle.codes.specs.Tables.{code64}
 use Rattle.card.specs.Builtin.{Builtin, builtin_card, blank, no_word}
-use Rattle.log.specs.Logs.{new_log}
+use Rattle.error_log.specs.Logs.{new_log}
 use Rattle.parts.specs.Units.{UnitState}
 use Rattle.unit.specs.declared.calls.Call.{Call}
 use Rattle.unit.specs.declared.calls.Call.TheVariants.{Write}

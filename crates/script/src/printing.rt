@@ -5,7 +5,7 @@ ghost use Rattle.lines.specs.Hex.{hex_digit, hex};
 ghost use Rattle.lines.specs.Texts.{field, ok_text, none_text, fault_text, first_line, answer_text};
 ghost use Rattle.script.specs.Written.{Wrote};
 
-use log::FirstError;
+use error_log::FirstError;
 use unit::Answer;
 use word::Fault;
 

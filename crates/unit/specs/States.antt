@@ -1,5 +1,5 @@
 -- What the program's unit stands for. Assumes nothing.
-use Rattle.log.specs.Logs.{log_of}
+use Rattle.error_log.specs.Logs.{log_of}
 use Rattle.parts.specs.Units.{UnitState}
 use Rattle.unit.specs.declared.units.Unit.{Unit as UnitOf}
 

@@ -5,7 +5,7 @@ use Rattle.word.specs.declared.words.Word.{Word}
 use Rattle.word.specs.declared.faults.Fault.{Fault}
 use Rattle.code.specs.Codes.{CodeModel}
 use Rattle.card.specs.Cards.{CardModel, read_answer, read_state, write_answer, write_state}
-use Rattle.log.specs.Logs.{new_log, log_word}
+use Rattle.error_log.specs.Logs.{new_log, log_word}
 use Rattle.parts.specs.Units.{UnitState, Outcome, unit_card, merged, scrubbed, injected}
 use Rattle.unit.specs.declared.calls.Call.{Call}
 use Rattle.unit.specs.declared.calls.Call.TheVariants.{Read, Write, Merge, Scrub, Inject, Log, First, Clear}

@@ -6,7 +6,7 @@ ghost use Rattle.unit.specs.Steps.{step, read_told, done_told, merge_told};
 use crate::units::Unit;
 use card::Card;
 use code::Code;
-use log::FirstError;
+use error_log::FirstError;
 use word::{Fault, Word};
 
 #[derive(Clone, Copy)]

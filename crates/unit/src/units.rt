@@ -1,6 +1,6 @@
 // A unit over any code and any card.
 ghost use Rattle.std.specs.Prelude.{◌≡◌, ◌/◌, ◌^◌, ◌<◌, ◌≤◌};
-ghost use Rattle.log.specs.Logs.{new_log, log_word};
+ghost use Rattle.error_log.specs.Logs.{new_log, log_word};
 ghost use Rattle.word.specs.Words.{value};
 ghost use Rattle.card.specs.Cards.{write_answer, write_state};
 ghost use Rattle.parts.specs.Merges.{joined};
@@ -10,7 +10,7 @@ ghost use Rattle.parts.proofs.UnitLaws.{unit_laws};
 
 use card::Card;
 use code::Code;
-use log::{FirstError, Log};
+use error_log::{FirstError, Log};
 use parts::{log_word, merge_words, places, read_over, write_over};
 use word::{Fault, Refusal, Word};
 

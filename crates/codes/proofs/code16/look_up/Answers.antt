@@ -3,10 +3,10 @@ use Rattle.codes.specs.Tables.{table16}
 use Rattle.codes.proofs.Told.{told_two, told_many}
 use Rattle.codes.proofs.code16.look_up.Goals as goal
 
-pub returns-in-default : goal.returns-in-default
-returns-in-default c =
+pub returns-in_default : goal.returns-in_default
+returns-in_default c =
     told_two 6 table16 c.args.syndrome (search rules) (search rules) (search rules) c.if-even-eq0.true
 
-pub returns-in-default-2 : goal.returns-in-default-2
-returns-in-default-2 c =
+pub returns-in_default-2 : goal.returns-in_default-2
+returns-in_default-2 c =
     told_many 6 table16 c.args.syndrome (search rules) (search rules) (search rules) c.if-even-eq0.false

@@ -9,8 +9,8 @@ more c =
     next_parity c.args.sense (λ j. get_or c.args.lanes j 0) c.loop-j.j c.loop-j.bits c.parity.result (omega arith) c.loop-j.invariant
     c.parity.ensures
 
-pub overflow-add-bits : goal.overflow-add-bits
-overflow-add-bits c =
+pub overflow_add-bits : goal.overflow_add-bits
+overflow_add-bits c =
     let e = more c in
     let eighth : suc c.loop-j.j ≤ 8 = omega arith in
     let below : parity_bits c.args.sense (suc c.loop-j.j) (λ j. get_or c.args.lanes j 0) < 2 ^ 8 =

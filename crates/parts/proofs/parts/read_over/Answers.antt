@@ -1,5 +1,5 @@
 use Rattle.std.proofs.Common.{◌<◌, ap, subst}
-use Rattle.log.specs.Logs.{log_of}
+use Rattle.error_log.specs.Logs.{log_of}
 use Rattle.parts.specs.Units.{UnitState}
 use Rattle.parts.proofs.UnitSteps.{read_sound, read_logged}
 use Rattle.parts.proofs.parts.read_over.Goals as goal

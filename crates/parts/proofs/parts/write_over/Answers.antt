@@ -1,7 +1,7 @@
 use Rattle.std.proofs.Common.{◌^◌, ◌<◌, ltb, sym, ap, ◌∙◌, subst}
 use Rattle.std.proofs.lemmas.Bool.{ltb-true}
 use Rattle.word.specs.Words.{value}
-use Rattle.log.specs.Logs.{new_log}
+use Rattle.error_log.specs.Logs.{new_log}
 use Rattle.parts.specs.Units.{UnitState}
 use Rattle.parts.proofs.UnitSteps.{write_sound, write_done}
 use Rattle.parts.proofs.parts.write_over.Goals as goal

@@ -3,4 +3,4 @@ use Rattle.codes.proofs.code32.Code32Code.locate.Goals as goal
 
 pub returns : goal.returns
 unfolding columns32 columns64
-returns c = c.look-up.ensures
+returns c = c.look_up.ensures

@@ -7,4 +7,4 @@ pub returns : goal.returns
 unfolding columns64
 returns c =
     let whole : c.args.syndrome ≡ c.args.syndrome % 2 ^ 8 = omega arith in
-    c.look-up.ensures ∙ ap (told 8 table64) whole
+    c.look_up.ensures ∙ ap (told 8 table64) whole

@@ -3,8 +3,8 @@ use Rattle.layers.specs.Parities.{Sensed, parity_card}
 use Rattle.layers.specs.ParityLaws.{raw_given}
 use Rattle.layers.proofs.parity.ParityCardCard.read.Goals as goal
 
-pub check-lanes-requires : goal.check-lanes-requires
-check-lanes-requires g c =
+pub check_lanes-requires : goal.check_lanes-requires
+check_lanes-requires g c =
     let b = g.C.Card.model in
     let s : Sensed b.State = record { sense = c.args.self.now.sense; card = g.C.Card.state c.args.self.now.card } in
     let here : c.args.place < (parity_card b).count s = omega arith in

@@ -13,5 +13,5 @@ returns-in-Err g c =
     let s : Sensed b.State = record { sense = c.args.self.now.sense; card = g.C.Card.state c.args.self.now.card } in
     let here : c.args.place < (parity_card b).count s = omega arith in
     let fit : ltb v (2 ^ (parity_card b).width s) ≡ true = let w = c.width.ensures in let e = c.if-not-fits.ensures in cc in
-    absurd (card_grants b g.met.C.Card.laws s c.args.place v c.width-2.result c.add-parity-raw.result c.in-Err.fault here
-    (ltb-true v _ fit) c.width-2.ensures c.add-parity-raw.ensures c.in-Err.ensures.answer)
+    absurd (card_grants b g.met.C.Card.laws s c.args.place v c.width-2.result c.add_parity-raw.result c.in-Err.fault here
+    (ltb-true v _ fit) c.width-2.ensures c.add_parity-raw.ensures c.in-Err.ensures.answer)

@@ -1,6 +1,6 @@
 // The log of a unit.
 ghost use Rattle.std.specs.Prelude.{◌≡◌, ◌≤◌, ◌==◌};
-ghost use Rattle.log.specs.Kinds.{is_quiet};
+ghost use Rattle.error_log.specs.Kinds.{is_quiet};
 
 use crate::records::{Kind, RawWord};
 

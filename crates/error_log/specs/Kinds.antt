@@ -1,7 +1,7 @@
 -- The kinds of errors that a log tells. Assumes nothing.
 use Rattle.std.specs.Prelude.{ℕ, Bool, true, false, cond}
-use Rattle.log.specs.declared.records.Kind.{Kind}
-use Rattle.log.specs.declared.records.Kind.TheVariants.{Quiet, Damaged, Single}
+use Rattle.error_log.specs.declared.records.Kind.{Kind}
+use Rattle.error_log.specs.declared.records.Kind.TheVariants.{Quiet, Damaged, Single}
 
 abbrev pub is_quiet : Kind → Bool
 is_quiet Quiet = true

@@ -1,12 +1,12 @@
 -- The log: what it holds, and what a reading makes of it. Assumes nothing.
 use Rattle.std.specs.Prelude.{ℕ, ◌+◌, ◌*◌, ◌^◌, min, Bool, cond, Some, None, Option, ◌==◌}
 use Rattle.code.specs.Codes.{CodeModel}
-use Rattle.log.specs.Kinds.{kind_of, kind_bits}
-use Rattle.log.specs.declared.records.Kind.{Kind}
-use Rattle.log.specs.declared.records.Kind.TheVariants.{Quiet}
-use Rattle.log.specs.declared.records.RawWord.{RawWord}
-use Rattle.log.specs.declared.records.FirstError.{FirstError}
-use Rattle.log.specs.declared.logs.Log.{Log}
+use Rattle.error_log.specs.Kinds.{kind_of, kind_bits}
+use Rattle.error_log.specs.declared.records.Kind.{Kind}
+use Rattle.error_log.specs.declared.records.Kind.TheVariants.{Quiet}
+use Rattle.error_log.specs.declared.records.RawWord.{RawWord}
+use Rattle.error_log.specs.declared.records.FirstError.{FirstError}
+use Rattle.error_log.specs.declared.logs.Log.{Log}
 
 pub record LogState : Type 0 where
   -- errors since the log was new or cleared, held at 15

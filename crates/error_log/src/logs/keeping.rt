@@ -1,6 +1,6 @@
 // How a log is kept.
 ghost use Rattle.std.specs.Prelude.{◌≡◌};
-ghost use Rattle.log.specs.Logs.{log_of, new_log, noted, error_half};
+ghost use Rattle.error_log.specs.Logs.{log_of, new_log, noted, error_half};
 
 use crate::logs::Log;
 use crate::records::{FirstError, Kind, RawWord};
