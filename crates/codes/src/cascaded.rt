@@ -1,10 +1,10 @@
 // The code of 64 data cells made by two slices of 32 cells each, one after the other.
-ghost use Rattle.std.specs.Prelude.{◌≡◌, ◌%◌, ◌^◌, codes, count_ones};
+ghost use Rattle.std.specs.Prelude.{◌≡◌, ◌%◌, ◌^◌, codes};
 ghost use Rattle.std.proofs.Math.Path.{refl};
 ghost use Rattle.codes.specs.Cascade.{SameAsSingle, cascaded64, lower_order, lower_slice, sliced, upper_order, upper_slice};
 ghost use Rattle.codes.specs.Lanes.{gathered};
 ghost use Rattle.codes.specs.Tables.{columns64, inverted};
-ghost use Rattle.std.specs.Int.Count.{ones_in};
+ghost use Rattle.std.specs.Int.Count.{ones, ones_in};
 ghost use Rattle.codes.specs.Lawful;
 ghost use Rattle.codes.specs.Slices.{lower_below};
 
@@ -25,7 +25,7 @@ impl Code for Cascaded64 {
 
     ghost title = { codes "cascaded 64-bit code" };
 
-    ghost lawful = { unfold columns64 count_ones ones_in in Lawful.lawful cascaded64 refl (λ d. lower_below (d % 2 ^ 32)) };
+    ghost lawful = { unfold columns64 ones ones_in in Lawful.lawful cascaded64 refl (λ d. lower_below (d % 2 ^ 32)) };
 
     fn name(&self) -> &str {
         "cascaded 64-bit code"

@@ -1,10 +1,10 @@
 // The code of 16 data cells and 6 check cells.
-ghost use Rattle.std.specs.Prelude.{◌≡◌, codes, count_ones};
+ghost use Rattle.std.specs.Prelude.{◌≡◌, codes};
 ghost use Rattle.std.proofs.Math.Path.{refl};
 ghost use Rattle.code.specs.Codes.{told};
 ghost use Rattle.codes.specs.Tables.{code16, columns16, order16, table16, z16};
 ghost use Rattle.codes.specs.Lanes.{gathered};
-ghost use Rattle.std.specs.Int.Count.{ones_in};
+ghost use Rattle.std.specs.Int.Count.{ones, ones_in};
 ghost use Rattle.std.proofs.Math.Dec.{lit<};
 ghost use Rattle.codes.specs.Lawful;
 
@@ -27,7 +27,7 @@ impl Code for Code16 {
 
     ghost title = { codes "16-bit code" };
 
-    ghost lawful = { unfold columns16 count_ones ones_in in Lawful.lawful code16 refl (λ d. lit< tt) };
+    ghost lawful = { unfold columns16 ones ones_in in Lawful.lawful code16 refl (λ d. lit< tt) };
 
     fn name(&self) -> &str {
         "16-bit code"

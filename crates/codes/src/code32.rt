@@ -1,10 +1,10 @@
 // The code of 32 data cells and 7 check cells.
-ghost use Rattle.std.specs.Prelude.{◌≡◌, codes, count_ones};
+ghost use Rattle.std.specs.Prelude.{◌≡◌, codes};
 ghost use Rattle.std.proofs.Math.Path.{refl};
 ghost use Rattle.code.specs.Codes.{told};
 ghost use Rattle.codes.specs.Tables.{code32, columns64, inverted, order32, table32, columns32};
 ghost use Rattle.codes.specs.Lanes.{gathered};
-ghost use Rattle.std.specs.Int.Count.{ones_in};
+ghost use Rattle.std.specs.Int.Count.{ones, ones_in};
 ghost use Rattle.std.proofs.Math.Dec.{lit<};
 ghost use Rattle.codes.specs.Lawful;
 
@@ -24,7 +24,7 @@ impl Code for Code32 {
 
     ghost title = { codes "32-bit code" };
 
-    ghost lawful = { unfold columns32 columns64 count_ones ones_in in Lawful.lawful code32 refl (λ d. lit< tt) };
+    ghost lawful = { unfold columns32 columns64 ones ones_in in Lawful.lawful code32 refl (λ d. lit< tt) };
 
     fn name(&self) -> &str {
         "32-bit code"

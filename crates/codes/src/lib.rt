@@ -1,4 +1,6 @@
 // The four codes: for 16, 32 and 64 data bits, and the last in two slices.
+#![tactic(auto)]
+
 mod cascaded;
 mod code16;
 mod code32;
