@@ -1,4 +1,6 @@
 // The log of a unit: what its readings met.
+#![tactic(auto)]
+
 mod logs;
 mod records;
 

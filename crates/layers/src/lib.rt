@@ -1,4 +1,6 @@
 // Layers that are cards over cards: two side by side, and one with parity bits.
+#![tactic(auto)]
+
 mod pair;
 mod parity;
 
