@@ -1,6 +1,6 @@
 -- What is known of merged lanes, over any number of them. Assumes nothing.
-use Rattle.std.proofs.Common.{◌≡◌, ℕ, zero, suc, ◌+◌, ◌-◌, ◌*◌, ◌/◌, ◌%◌, ◌^◌, ◌<◌, ◌≤◌, Bool, true, false, cond, eqb, sym, refl, ap, ◌∙◌, subst, ⊎_elim, lt_of_lt_of_le, mod-eq_of_lt, mul_comm, add_comm, mul-zero, mul-add, arith, pow_pos, pow_mono, pow-add}
-use native.Mathlib.Nat.{div-eq_of_lt, zero-div, zero-mod, mod-one}
+use Rattle.std.proofs.Common.{◌≡◌, ℕ, zero, suc, ◌+◌, ◌-◌, ◌*◌, ◌/◌, ◌%◌, ◌^◌, ◌<◌, ◌≤◌, true, false, sym, refl, ap, ◌∙◌, lt_of_lt_of_le, mod-eq_of_lt, mul_comm, mul-zero, arith, pow_pos, pow_mono, pow-add}
+use native.Mathlib.Nat.{div-eq_of_lt, zero-div, mod-one}
 use lib.Pow.{mod-pow-add, high, ones_split, ones_lt}
 use Rattle.std.proofs.lemmas.Nat.{mod_below, mul-add-lt}
 use Rattle.std.proofs.lemmas.Bool.{cond_both, cond-true, cond-false, eq-eqb, ne_eqb}

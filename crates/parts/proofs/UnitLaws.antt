@@ -1,8 +1,8 @@
 -- A unit over a lawful card, with a lawful code, is a lawful card. Assumes nothing.
-use Rattle.std.proofs.Common.{◌≡◌, ℕ, ◌+◌, ◌^◌, ◌<◌, ◌≤◌, Bool, true, false, cond, eqb, ◌≢◌, sym, refl, ap, ◌∙◌, subst, ⊎_elim, arith}
+use Rattle.std.proofs.Common.{◌≡◌, ℕ, ◌+◌, ◌^◌, ◌<◌, ◌≤◌, cond, eqb, refl, ap, ◌∙◌, subst, ⊎_elim, arith}
 use Rattle.std.proofs.lemmas.Bool.{cond_both, cases_Bool, cond-true, cond-false, eqb-true}
 use Rattle.code.specs.Codes.{CodeModel, CodeLaws, codeword}
-use Rattle.card.specs.Cards.{CardModel, CardLaws, Entry, holds, faulty, Within}
+use Rattle.card.specs.Cards.{CardModel, CardLaws, Within}
 use Rattle.parts.specs.Units.{UnitState, unit_card, unit_entry}
 use Rattle.code.proofs.Distances.{codeword_below}
 use Rattle.parts.proofs.CodeFacts.{entry_within, entry_codeword}

@@ -1,5 +1,5 @@
 -- The calls of a unit, step by step, from what the calls below answer. Assumes nothing.
-use Rattle.std.proofs.Common.{◌≡◌, ℕ, ◌+◌, ◌*◌, ◌/◌, ◌^◌, ◌<◌, ◌≤◌, Bool, true, false, cond, eqb, ltb, ◌≢◌, Some, None, Ok, Err, Result, sym, refl, ap, ◌∙◌, subst, ⊎_elim, lt_of_lt_of_le, arith, pow_mono}
+use Rattle.std.proofs.Common.{◌≡◌, ℕ, ◌+◌, ◌*◌, ◌/◌, ◌^◌, ◌<◌, ◌≤◌, Some, Ok, Result, sym, ap, ◌∙◌, subst, lt_of_lt_of_le, arith, pow_mono}
 use lib.Bits.{bit_xor, xor_lt}
 use Rattle.std.proofs.lemmas.Nat.{pow_below}
 use Rattle.std.proofs.lemmas.Bool.{cond-true, cond-false, lt-ltb, ne_eqb}
@@ -8,7 +8,7 @@ use Rattle.word.specs.declared.words.Word.{Word}
 use Rattle.word.specs.declared.faults.Fault.{Fault}
 use Rattle.word.proofs.Values.{value_of_value}
 use Rattle.code.specs.Codes.{CodeModel, CodeLaws, codeword}
-use Rattle.card.specs.Cards.{CardModel, CardLaws, Entry, holds, faulty, Within, shown, read_answer, read_state, write_answer, write_state}
+use Rattle.card.specs.Cards.{CardModel, CardLaws, Entry, holds, faulty, shown, read_answer, read_state, write_answer, write_state}
 use Rattle.error_log.specs.Logs.{LogState}
 use Rattle.parts.specs.Units.{UnitState, unit_card, unit_entry, logged, injecting, injected, merging, kept, merged}
 use Rattle.card.proofs.CardFacts.{read_entered, read_leads, read_within, write_granted, write_leads}

@@ -1,5 +1,5 @@
 -- A unit: the card that it shows, made from its code and the card below. Assumes nothing.
-use Rattle.std.specs.Prelude.{ℕ, ◌+◌, ◌-◌, ◌*◌, ◌/◌, ◌%◌, ◌^◌, cond, is_err, Some, None, Ok, Err, Option, Result, ◌==◌, bit_xor, nat_lt}
+use Rattle.std.specs.Prelude.{ℕ, ◌+◌, ◌-◌, ◌/◌, ◌%◌, ◌^◌, cond, is_err, Some, None, Ok, Err, Option, Result, ◌==◌, bit_xor, nat_lt}
 use Rattle.word.specs.Words.{of_value}
 use Rattle.word.specs.declared.words.Word.{Word}
 use Rattle.word.specs.Faults.{arisen, passed}
@@ -9,7 +9,7 @@ use Rattle.word.specs.declared.refusals.Refusal.TheVariants.{Place as PLACE, Wid
 use Rattle.code.specs.Codes.{CodeModel, codeword, syndrome}
 use Rattle.code.specs.Decoding.{decoded}
 use Rattle.card.specs.Cards.{CardModel, Entry, holds, faulty}
-use Rattle.error_log.specs.Logs.{LogState, new_log, noted}
+use Rattle.error_log.specs.Logs.{LogState, noted}
 use Rattle.parts.specs.Merges.{joined}
 use Rattle.error_log.specs.declared.records.RawWord.{RawWord}
 

@@ -1,4 +1,6 @@
 // What a unit does with a code, a card and a log: it lays words out, takes them back, and merges lanes.
+#![tactic(auto)]
+
 mod decoding;
 mod merging;
 mod parts;
