@@ -1,4 +1,6 @@
 // Prints what cards answer: a read word in hexadecimal after `=`, a granted write as `ok`, a refusal after `!` with number, place, depth and way.
+#![tactic(auto)]
+
 mod worn;
 
 ghost use Rattle.std.specs.Prelude.{◌≡◌, [], ◌∷◌, None};
@@ -47,9 +49,9 @@ fn tell_size<C: Card>(rt: &impl Print, card: &C) -> io::Result<()> {
 }
 
 fn tell_bytes(rt: &impl Print, bytes: &[u8]) -> io::Result<()> {
-    print!(rt, "bytes")?;
+    print!(rt; "bytes")?;
     for byte in bytes {
-        print!(rt, " {byte:02x}")?;
+        print!(rt; " {byte:02x}")?;
     }
     println!(rt; "")
 }

@@ -1,4 +1,6 @@
 // Prints the decode table of each code, and holds the codes to the decode tables and equations that makers of such chips publish.
+#![tactic(auto)]
+
 mod equations;
 mod published;
 mod sheets;

@@ -105,7 +105,7 @@ fn compare_row<C: Code>(rt: &impl Print, code: &C, sheet: Sheet, row: u8) -> io:
         if sheet.read(entry) == Some(located) {
             agreed = agreed.saturating_add(1);
         } else {
-            print!(rt, "{syndrome:02x} is {entry} in print, and here ")?;
+            print!(rt; "{syndrome:02x} is {entry} in print, and here ")?;
             print_located(rt, located)?;
             println!(rt; "")?;
         }
@@ -159,7 +159,7 @@ pub fn compare_sheet16(rt: &impl Print) -> io::Result<()> {
         if located == located16(column) {
             agreed = agreed.saturating_add(1);
         } else {
-            print!(rt, "{syndrome:02x} is column {column} in print, and here ")?;
+            print!(rt; "{syndrome:02x} is column {column} in print, and here ")?;
             print_located(rt, located)?;
             println!(rt; "")?;
         }

@@ -67,15 +67,15 @@ fn tell_before(rt: &impl Print, watcher: &Watcher, call: Call) -> io::Result<()>
         Some(place) => match watcher.watch(place) {
             Some(watch) => {
                 let words = WatchText(watch);
-                print!(rt, "{words}")
+                print!(rt; "{words}")
             }
-            None => print!(rt, "not watched"),
+            None => print!(rt; "not watched"),
         },
         None if watcher.log.all_in_hand => {
             let errors = watcher.log.errors_met;
-            print!(rt, "all readings in hand, errors met {errors}")
+            print!(rt; "all readings in hand, errors met {errors}")
         }
-        None => print!(rt, "a reading was not in hand"),
+        None => print!(rt; "a reading was not in hand"),
     }
 }
 
@@ -90,11 +90,11 @@ fn tell_call(
     let owed = watcher.owed(shape, call);
     let verdict = owed.judge(answer);
     let call_text = CallText(call);
-    print!(rt, "{call_text}: ")?;
+    print!(rt; "{call_text}: ")?;
     tell_before(rt, watcher, call)?;
     let owed_text = DueText(owed);
     let answer_text = AnswerText(answer);
-    print!(rt, "; owed {owed_text}; given {answer_text}")?;
+    print!(rt; "; owed {owed_text}; given {answer_text}")?;
     match verdict {
         Verdict::Free => println!(rt; "")?,
         Verdict::Agrees => println!(rt; "; agrees")?,

@@ -11,11 +11,11 @@ returns g c =
     let s = state_of g.D.Card.state c.args.self.now in
     let h = subst (λ n. c.args.place < n) c.count.ensures c.if-place-count.false in
     let v = value c.args.word in
-    let b = ltb-true v (2 ^ g.C.Code.code.n) (sym (ap (λ n. ltb v (2 ^ n)) c.data-width.ensures) ∙ sym c.fits.ensures ∙ c.if-not-fits.false) in
+    let b = ltb-true v (2 ^ g.C.Code.code.n) (sym (ap (λ n. ltb v (2 ^ n)) c.data_width.ensures) ∙ sym c.fits.ensures ∙ c.if-not-fits.false) in
     let shift = one_shl c.lanes.result 16 (omega (arith, c.lanes.ensures.few)) in
     let f = subst (λ n. c.args.enables < n) (shift ∙ ap (λ n. 2 ^ n) c.lanes.ensures.lanes) c.if-enables-lanes.false in
     let whole = merge_is g.C.Code.code g.D.Card.model g.met.C.Code.lawful g.met.D.Card.laws s c.args.place h c.args.word c.args.enables b f c.if-enables-eq0.false in
     record {
-      answer = c.merge-kept.ensures.answer ∙ ap (λ o. o.answer) whole;
-      after = c.merge-kept.ensures.after ∙ ap (λ o. o.state) whole;
+      answer = c.merge_kept.ensures.answer ∙ ap (λ o. o.answer) whole;
+      after = c.merge_kept.ensures.after ∙ ap (λ o. o.state) whole;
     }
