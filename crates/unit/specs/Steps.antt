@@ -1,5 +1,5 @@
 -- One step of a unit for each of its calls. Assumes nothing.
-use Rattle.std.specs.Prelude.{ℕ, Ok, Err, Option, Result}
+use Rattle.std.specs.Prelude.{Ok, Err, Option, Result}
 use Rattle.word.specs.Words.{value}
 use Rattle.word.specs.declared.words.Word.{Word}
 use Rattle.word.specs.declared.faults.Fault.{Fault}

@@ -60,7 +60,7 @@ impl<C: Code, D: Card> Unit<C, D> {
     // A merge that keeps a lane, its arguments granted.
     fn merge_kept(&mut self, place: u16, new: u64, enables: u8) -> Result<Option<Word>, Fault>
         requires place_bound { place < (unit_card C.Code.code D.Card.model).count (state_of D.Card.state self.old) }
-        requires bound { new < 2 ^ C.Code.code.n }
+        requires word_bound { new < 2 ^ C.Code.code.n }
         ensures answer { result ≡ (kept C.Code.code D.Card.model (state_of D.Card.state self.old) place new enables).answer }
         ensures after { state_of D.Card.state self.new ≡ (kept C.Code.code D.Card.model (state_of D.Card.state self.old) place new enables).state }
     {
