@@ -1,21 +1,21 @@
 -- What each call does to the card below. Assumes nothing.
-use Rattle.std.proofs.Common.{◌≡◌, ℕ, zero, suc, ◌+◌, ◌-◌, ◌*◌, ◌/◌, ◌^◌, ◌<◌, ◌≤◌, Bool, true, false, cond, not, ◌&&◌, T, eqb, ltb, ◌≢◌, List, [], ◌∷◌, Some, None, Ok, Err, Option, Result, sym, refl, ap, ◌∙◌, subst, ⊎_elim, lt_of_lt_of_le, arith, pow_mono}
+use Rattle.std.proofs.Common.{◌≡◌, ℕ, ◌+◌, ◌/◌, ◌^◌, ◌<◌, ◌≤◌, Bool, true, false, cond, not, ◌&&◌, eqb, ltb, Some, None, Ok, Err, Option, Result, sym, refl, ap, ◌∙◌, subst, ⊎_elim, arith, pow_mono}
 use lib.Bits.{bit_xor, xor_lt}
 use Rattle.std.proofs.lemmas.Nat.{pow_below}
-use Rattle.std.proofs.lemmas.Bool.{cases_Bool, cases_eq, cases_lt, cond-true, cond-false, cond_both, ltb-true, eqb-true, eqb-false, lt-ltb, le-ltb, eq-eqb, ne_eqb, and_right}
-use Rattle.word.specs.Words.{value, of_value}
+use Rattle.std.proofs.lemmas.Bool.{cases_lt, cond-true, cond-false, cond_both, ltb-true, eqb-true, eqb-false, lt-ltb, le-ltb, eq-eqb, ne_eqb}
+use Rattle.word.specs.Words.{value}
 use Rattle.word.specs.declared.faults.Fault.{Fault}
 use Rattle.word.specs.declared.refusals.Refusal.{Refusal}
 use Rattle.word.specs.declared.refusals.Refusal.TheVariants.{Place as PLACE, Wide as WIDE, Enable as ENABLE}
 use Rattle.word.specs.declared.words.Word.{Word}
 use Rattle.code.specs.Codes.{CodeModel, CodeLaws, codeword}
 use Rattle.code.proofs.Distances.{codeword_below}
-use Rattle.card.specs.Cards.{CardModel, CardLaws, Entry, holds, faulty, Within, shown, read_answer, read_state, write_answer, write_state}
-use Rattle.card.proofs.CardFacts.{read_entered, read_leads, write_granted, write_leads}
+use Rattle.card.specs.Cards.{CardModel, CardLaws, Entry, holds, faulty, Within, read_state, write_answer}
+use Rattle.card.proofs.CardFacts.{write_granted, write_leads}
 use Rattle.error_log.specs.Logs.{new_log}
 use Rattle.parts.specs.Merges.{joined}
-use Rattle.parts.specs.Units.{UnitState, Outcome, unit_card, unit_entry, refused, injecting, injected, merging, kept, writing, merged, scrubbed, all_lanes}
-use Rattle.unit.specs.Steps.{step, read_told, done_told, merge_told}
+use Rattle.parts.specs.Units.{UnitState, Outcome, unit_card, unit_entry, refused, injecting, merging, kept, writing, merged, all_lanes}
+use Rattle.unit.specs.Steps.{step, done_told, merge_told}
 use Rattle.runs.specs.Histories.{Made, granted, writes, stores, hits, laid_by}
 use Rattle.unit.specs.declared.calls.Call.{Call}
 use Rattle.unit.specs.declared.calls.Call.TheVariants.{Read, Write, Merge, Scrub, Inject, Log, First, Clear}

@@ -1,17 +1,16 @@
 -- What the card below holds at a place in hand, kept by every call. Assumes nothing.
-use Rattle.std.proofs.Common.{◌≡◌, ℕ, zero, suc, ◌+◌, ◌/◌, ◌^◌, ◌<◌, ◌≤◌, Bool, true, false, cond, not, ◌&&◌, T, eqb, ltb, List, [], ◌∷◌, sym, refl, ap, ◌∙◌, subst, ⊎_elim, arith}
+use Rattle.std.proofs.Common.{◌≡◌, ℕ, zero, suc, ◌+◌, ◌/◌, ◌^◌, ◌<◌, ◌≤◌, Bool, true, false, ◌&&◌, T, eqb, ◌∷◌, sym, refl, ap, ◌∙◌, subst, ⊎_elim, arith}
 use lib.Bits.{bit_xor, xor_assoc, xor_zero_r}
-use Rattle.std.proofs.lemmas.Bool.{cases_eq, cases_lt, eq-eqb, ne_eqb, and_left, and_right}
+use Rattle.std.proofs.lemmas.Bool.{cases_eq, cases_lt, eq-eqb, ne_eqb}
 use Rattle.word.specs.Faults.{arisen}
 use Rattle.word.specs.declared.refusals.Refusal.TheVariants.{Two as TWO}
 use Rattle.code.specs.Codes.{CodeModel, CodeLaws, codeword}
-use Rattle.card.specs.Cards.{CardModel, CardLaws, Entry, holds, faulty}
-use Rattle.parts.specs.Units.{UnitState, unit_entry}
+use Rattle.card.specs.Cards.{CardModel, holds, faulty}
+use Rattle.parts.specs.Units.{unit_entry}
 use Rattle.runs.specs.Histories.{Made, History, granted, writes, stores, hits, upset, number_of, upset_cells, is_in_hand, laid_by, last_laid}
-use Rattle.unit.specs.declared.calls.Call.{Call}
-use Rattle.runs.proofs.Masks.{mask, struck, mask_none, mask_same, mask_toggled, number_same, struck_read, struck_refused}
+use Rattle.runs.proofs.Masks.{mask, mask_none, mask_same, mask_toggled, number_same, struck_read, struck_refused}
 use Rattle.runs.proofs.Pasts.{not_writes, laid_kept, hand_over, few_upset, upset_kept, upset_turned, laid_new, upset_none}
-use Rattle.runs.proofs.Effects.{places, Same, Put, Stores, whole, over, Effect, idle, stored, flipped}
+use Rattle.runs.proofs.Effects.{places, Put, Stores, whole, over, Effect, idle, stored, flipped}
 
 none_pass : (w : ℕ) → number_of (λ _. false) w ≡ 0
 none_pass zero = refl

@@ -1,7 +1,7 @@
 -- Every run keeps the promise. Assumes nothing.
-use Rattle.std.proofs.Common.{◌≡◌, ℕ, zero, suc, ◌+◌, ◌-◌, ◌*◌, ◌/◌, ◌%◌, ◌^◌, ◌<◌, ◌≤◌, min, Bool, true, false, cond, not, ◌&&◌, T, eqb, ltb, List, [], ◌∷◌, Some, None, Option, sym, refl, ap, ◌∙◌, subst, ⊎_elim, arith}
+use Rattle.std.proofs.Common.{◌≡◌, ℕ, true, false, List, [], ◌∷◌, Some, None, Option, sym, refl, ◌∙◌, subst, ⊎_elim, arith}
 use Rattle.code.specs.Codes.{CodeModel, CodeLaws}
-use Rattle.card.specs.Cards.{CardModel, CardLaws, Entry, holds, faulty, Within}
+use Rattle.card.specs.Cards.{CardModel, CardLaws, Within}
 use Rattle.layers.specs.PairLaws.{pair_laws}
 use Rattle.layers.specs.ParityLaws.{parity_laws}
 use Rattle.parts.specs.Units.{UnitState, unit_card}

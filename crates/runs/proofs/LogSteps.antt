@@ -1,18 +1,16 @@
 -- What each call does to the log. Assumes nothing.
-use Rattle.std.proofs.Common.{◌≡◌, ℕ, zero, suc, ◌+◌, ◌-◌, ◌*◌, ◌/◌, ◌%◌, ◌^◌, ◌<◌, ◌≤◌, min, Bool, true, false, cond, not, ◌&&◌, T, eqb, ltb, List, [], ◌∷◌, Some, None, Option, Result, sym, refl, ap, ◌∙◌, subst, ⊎_elim, lt_of_lt_of_le, arith, pow_pos, pow_mono}
-use lib.Bits.{bit_xor}
+use Rattle.std.proofs.Common.{◌≡◌, ℕ, ◌+◌, ◌/◌, ◌%◌, ◌^◌, ◌<◌, ◌≤◌, min, Bool, true, false, cond, not, ◌&&◌, eqb, ltb, Some, None, Option, Result, sym, refl, ap, ◌∙◌, subst, ⊎_elim, lt_of_lt_of_le, arith, pow_pos, pow_mono}
 use lib.Pow.{ones_lt}
 use Rattle.word.specs.Words.{value}
 use Rattle.word.specs.declared.faults.Fault.{Fault}
-use Rattle.std.proofs.lemmas.Bool.{cases_eq, cond-true, cond-false, cond_both, ltb-true, eq-eqb, ne_eqb, lt-ltb, le-ltb, and_from}
+use Rattle.std.proofs.lemmas.Bool.{cases_eq, cond-true, cond-false, cond_both, ltb-true, eq-eqb, ne_eqb, lt-ltb, and_from}
 use Rattle.code.specs.Codes.{CodeModel, CodeLaws, syndrome}
 use Rattle.code.proofs.Distances.{check_below, syndrome_below}
-use Rattle.card.specs.Cards.{CardModel, CardLaws, Entry, holds, faulty, Within, read_state, write_state}
-use Rattle.error_log.specs.Kinds.{kind_bits, kind_of}
-use Rattle.error_log.specs.Logs.{LogState, new_log, noted, log_word, error_half, taken_half}
+use Rattle.card.specs.Cards.{CardModel, CardLaws, Entry, holds, faulty, Within}
+use Rattle.error_log.specs.Kinds.{kind_bits}
+use Rattle.error_log.specs.Logs.{LogState, new_log, noted, log_word, taken_half}
 use Rattle.parts.specs.Units.{UnitState, Outcome, unit_card, cut, logged, merging, merged, injecting, all_lanes}
 use Rattle.unit.specs.Steps.{step}
-use Rattle.runs.specs.Histories.{History, upset, upset_cells, is_in_hand}
 use Rattle.runs.specs.Promises.{meets, is_clear}
 use Rattle.error_log.specs.declared.records.Kind.{Kind}
 use Rattle.error_log.specs.declared.records.Kind.TheVariants.{Quiet, Damaged, Single}
@@ -20,7 +18,6 @@ use Rattle.error_log.specs.declared.records.RawWord.{RawWord}
 use Rattle.unit.specs.declared.calls.Call.{Call}
 use Rattle.unit.specs.declared.calls.Call.TheVariants.{Read, Write, Merge, Scrub, Inject, Log, First, Clear}
 use Rattle.runs.proofs.Effects.{places, merge_ways, kept_place, lane_some}
-use Rattle.parts.proofs.UnitLaws.{fits_from_place}
 
 module _ (c : CodeModel) (m : CardModel) where
   -- a call that reads a place records what it met there; any other leaves the log

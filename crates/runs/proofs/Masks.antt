@@ -1,8 +1,8 @@
 -- Cells complemented by a test, and what a unit makes of at most two of them. Assumes nothing.
-use Rattle.std.proofs.Common.{◌≡◌, ℕ, zero, suc, ◌+◌, ◌%◌, ◌^◌, ◌<◌, ◌≤◌, Bool, true, false, cond, not, eqb, Ok, Err, sym, refl, ap, ◌∙◌, subst, ⊎_elim, arith}
+use Rattle.std.proofs.Common.{◌≡◌, ℕ, zero, suc, ◌+◌, ◌^◌, ◌<◌, Bool, true, false, cond, not, eqb, sym, refl, ap, ◌∙◌, subst, ⊎_elim, arith}
 use lib.Bits.{bit_xor, xor_assoc, xor_comm, xor_zero_r}
 use lib.Count.{ones}
-use Rattle.std.proofs.lemmas.Bool.{cases_Bool, cases_eq, cases_lt, cond-true, cond-false, not_from_true, not_from_false, eq-eqb, ne_eqb}
+use Rattle.std.proofs.lemmas.Bool.{cases_Bool, cases_eq, not_from_true, not_from_false, eq-eqb, ne_eqb}
 use Rattle.word.specs.Faults.{arisen}
 use Rattle.word.specs.declared.refusals.Refusal.TheVariants.{Two as TWO}
 use Rattle.code.specs.Codes.{CodeModel, CodeLaws, codeword, syndrome}

@@ -1,10 +1,10 @@
 -- The lanes of a merge are its cells, eight and eight. Assumes nothing.
-use Rattle.std.proofs.Common.{◌≡◌, ℕ, zero, suc, ◌+◌, ◌*◌, ◌/◌, ◌%◌, ◌^◌, ◌<◌, Bool, true, false, cond, eqb, sym, refl, ap, ◌∙◌, ⊎_elim, mul_comm, arith}
+use Rattle.std.proofs.Common.{◌≡◌, ℕ, zero, suc, ◌+◌, ◌*◌, ◌/◌, ◌%◌, ◌^◌, ◌<◌, Bool, cond, sym, refl, ap, ◌∙◌, ⊎_elim, mul_comm, arith}
 use native.Mathlib.Nat.{mod-one}
 use lib.Pow.{mod-pow-add}
 use Rattle.std.proofs.lemmas.Nat.{mod_below}
 use Rattle.std.proofs.lemmas.Bool.{cases_Bool, cond-true, cond-false, eqb-true, eqb-false}
-use Rattle.word.specs.Lanes.{lane, lane_sum}
+use Rattle.word.specs.Lanes.{lane}
 use Rattle.parts.specs.Merges.{bit, merged_lane, joined}
 use Rattle.runs.specs.Histories.{is_set, of_cells, merged_cell}
 

@@ -1,5 +1,5 @@
 -- Each answer is the one owed, and the counter counts. Assumes nothing.
-use Rattle.std.proofs.Common.{◌≡◌, ℕ, zero, suc, ◌+◌, ◌-◌, ◌*◌, ◌/◌, ◌%◌, ◌^◌, ◌<◌, ◌≤◌, min, Bool, true, false, cond, not, ◌&&◌, T, eqb, ltb, List, [], ◌∷◌, Some, None, Option, Result, sym, refl, ap, ◌∙◌, subst, ⊎_elim, arith, pow_pos}
+use Rattle.std.proofs.Common.{◌≡◌, ℕ, ◌+◌, ◌/◌, ◌^◌, ◌<◌, ◌≤◌, min, cond, not, ◌&&◌, T, eqb, ltb, ◌∷◌, Some, None, Option, Result, sym, refl, ap, ◌∙◌, ⊎_elim, arith, pow_pos}
 use lib.Bits.{bit_xor}
 use lib.Pow.{ones_lt}
 use Rattle.std.proofs.lemmas.Bool.{cases_eq, cond-true, cond-false, and_parts, ltb-true, lt-ltb, le-ltb, eq-eqb, ne_eqb, eqb-false, not-true}
@@ -14,12 +14,12 @@ use Rattle.card.proofs.CardFacts.{read_entered}
 use Rattle.error_log.specs.Logs.{LogState, log_word}
 use Rattle.parts.specs.Units.{UnitState, Outcome, unit_card, unit_entry, cut, logged, merging, kept, merged, injecting, injected, all_lanes}
 use Rattle.unit.specs.Steps.{step, read_told, done_told, merge_told}
-use Rattle.runs.specs.Histories.{Made, History, upset, upset_cells, is_in_hand, last_laid}
-use Rattle.runs.specs.Promises.{meets, keeps, Reads, Owed, Counts, AllInHand, MetInHand, upset_met, met_errors, is_clear}
+use Rattle.runs.specs.Histories.{History, upset, upset_cells, is_in_hand, last_laid}
+use Rattle.runs.specs.Promises.{meets, Reads, Owed, Counts, AllInHand, MetInHand, upset_met, met_errors}
 use Rattle.unit.specs.declared.calls.Call.{Call}
 use Rattle.unit.specs.declared.calls.Call.TheVariants.{Read, Write, Merge, Scrub, Inject, Log, First, Clear}
 use Rattle.unit.specs.declared.calls.Answer.{Answer}
-use Rattle.unit.specs.declared.calls.Answer.TheVariants.{Done, Gave, Merged, LogWord, FirstWas, Refused}
+use Rattle.unit.specs.declared.calls.Answer.TheVariants.{Done, Gave, Merged, Refused}
 use Rattle.runs.proofs.Masks.{mask, struck_syndrome}
 use Rattle.runs.proofs.Pasts.{holds_true}
 use Rattle.runs.proofs.Effects.{places, lane_some}

@@ -1,7 +1,7 @@
 -- How one more call changes the words for the past. Assumes nothing.
-use Rattle.std.proofs.Common.{◌≡◌, ℕ, zero, suc, ◌+◌, ◌%◌, ◌<◌, Bool, true, false, cond, not, ◌&&◌, T, eqb, ltb, List, [], ◌∷◌, sym, refl, ap, ◌∙◌, subst, ⊎_elim, arith}
-use Rattle.std.proofs.lemmas.Bool.{cases_Bool, cases_eq, cond-true, cond-false, and_parts, and_left, ltb-true, eq-eqb, ne_eqb}
-use Rattle.runs.specs.Histories.{Made, History, granted, writes, stores, hits, hits_since, upset, number_of, upset_cells, is_in_hand, laid_by, last_laid}
+use Rattle.std.proofs.Common.{◌≡◌, ℕ, suc, ◌%◌, ◌<◌, Bool, true, false, not, ◌&&◌, T, eqb, ltb, ◌∷◌, sym, refl, ap, ◌∙◌, subst, ⊎_elim, arith}
+use Rattle.std.proofs.lemmas.Bool.{cases_eq, cond-true, cond-false, and_parts, and_left, ltb-true, eq-eqb, ne_eqb}
+use Rattle.runs.specs.Histories.{Made, History, granted, writes, stores, hits, hits_since, upset, upset_cells, is_in_hand, laid_by, last_laid}
 use Rattle.unit.specs.declared.calls.Call.{Call}
 use Rattle.unit.specs.declared.calls.Call.TheVariants.{Read, Write, Merge, Scrub, Inject, Log, First, Clear}
 

@@ -1,14 +1,14 @@
 -- What is promised of any run of calls on a unit. Assumes nothing.
-use Rattle.std.specs.Prelude.{◌≡◌, ℕ, ◌+◌, ◌/◌, ◌%◌, ◌^◌, ◌<◌, ◌≤◌, min, Bool, true, false, cond, not, ◌&&◌, T, List, [], ◌∷◌, Some, None, Option, ◌==◌, nat_lt}
+use Rattle.std.specs.Prelude.{◌≡◌, ℕ, ◌+◌, ◌/◌, ◌%◌, ◌^◌, ◌<◌, ◌≤◌, min, Bool, true, false, cond, not, ◌&&◌, T, [], ◌∷◌, Some, None, Option, ◌==◌, nat_lt}
 use Rattle.word.specs.Words.{value, of_value}
 use Rattle.word.specs.Faults.{arisen}
 use Rattle.word.specs.declared.words.Word.{Word}
 use Rattle.word.specs.declared.refusals.Refusal.TheVariants.{Cell as CELL, Two as TWO}
-use Rattle.runs.specs.Histories.{Made, History, upset_cells, is_in_hand, last_laid}
+use Rattle.runs.specs.Histories.{History, upset_cells, is_in_hand, last_laid}
 use Rattle.unit.specs.declared.calls.Call.{Call}
 use Rattle.unit.specs.declared.calls.Call.TheVariants.{Read, Write, Merge, Scrub, Inject, Log, First, Clear}
 use Rattle.unit.specs.declared.calls.Answer.{Answer}
-use Rattle.unit.specs.declared.calls.Answer.TheVariants.{Done, Gave, Merged, LogWord, FirstWas, Refused}
+use Rattle.unit.specs.declared.calls.Answer.TheVariants.{Done, Gave, Merged, LogWord, Refused}
 
 -- a unit of n data cells and k check cells, with so many places
 module _ (n k places : ℕ) where

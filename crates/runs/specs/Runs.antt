@@ -1,7 +1,7 @@
 -- Runs of calls on a new unit, and what they keep. Assumes nothing.
-use Rattle.std.specs.Prelude.{◌≡◌, ℕ, List, [], ◌∷◌}
+use Rattle.std.specs.Prelude.{List, [], ◌∷◌}
 use Rattle.code.specs.Codes.{CodeModel}
-use Rattle.card.specs.Cards.{CardModel, CardLaws}
+use Rattle.card.specs.Cards.{CardModel}
 use Rattle.error_log.specs.Logs.{new_log}
 use Rattle.parts.specs.Units.{UnitState, unit_card}
 use Rattle.runs.specs.Stacks.{StacksStand}

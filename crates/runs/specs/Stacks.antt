@@ -1,7 +1,7 @@
 -- Every stack of units, pairs and parity layers over two given cards. Assumes nothing.
-use Rattle.std.specs.Prelude.{◌≡◌, ℕ, ◌+◌, ◌*◌, ◌<◌, min, cond, ◌==◌, nat_le}
+use Rattle.std.specs.Prelude.{◌≡◌, ℕ, ◌+◌, ◌*◌, min, cond, ◌==◌, nat_le}
 use Rattle.code.specs.Codes.{CodeModel, CodeLaws}
-use Rattle.card.specs.Cards.{CardModel, CardLaws, Entry}
+use Rattle.card.specs.Cards.{CardModel, CardLaws}
 use Rattle.layers.specs.Pairs.{pair_card, joined}
 use Rattle.layers.specs.Parities.{parity_card, checked, by_nines, lanes_in}
 use Rattle.parts.specs.Units.{unit_card, unit_entry}

@@ -1,4 +1,6 @@
 // Runs of calls on a unit, the promise over them, and stacks of layers.
+#![tactic(auto)]
+
 mod boards;
 mod running;
 mod stacks;
