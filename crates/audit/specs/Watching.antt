@@ -2,7 +2,7 @@
 use Rattle.std.specs.Prelude.{◌≡◌, ℕ, ◌<◌, Bool, false, cond, not, List, slice_index_or}
 use Rattle.word.specs.Words.{value}
 use Rattle.unit.specs.declared.calls.Call.{Call}
-use Rattle.runs.specs.Histories.{History, granted, stores, hits, upset, is_in_hand, laid_by, last_laid}
+use Rattle.runs.specs.Histories.{History, stores, hits, upset, is_in_hand, laid_by, last_laid}
 use Rattle.audit.specs.declared.watching.Watch.{Watch}
 
 -- whether a watch marks cell x

@@ -1,4 +1,6 @@
 // The words of the promise over runs, worked out from calls and their answers alone, and an audit of recorded runs by them.
+#![tactic(auto)]
+
 mod auditing;
 mod owing;
 mod shapes;

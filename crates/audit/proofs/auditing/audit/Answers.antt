@@ -7,7 +7,7 @@ use Rattle.unit.specs.declared.calls.Call.TheVariants.{Read}
 use Rattle.unit.specs.declared.calls.Answer.TheVariants.{Done}
 use Rattle.audit.proofs.Audited.{past_more}
 use Rattle.audit.proofs.auditing.audit.Goals as goal
-use Rattle.audit.proofs.auditing.audit.Goals.{then-does-differ, else-does-differ}
+use Rattle.audit.proofs.auditing.audit.Goals.{then-does_differ, else-does_differ}
 
 pub loop-made-preserved : goal.loop-made-preserved
 loop-made-preserved c =
@@ -21,18 +21,18 @@ loop-made-preserved c =
     let more = past_more c.args.calls.now c.args.answers.now l.made (Read 0) Done c.loop-made-test.true c.if-made-answers.true in (
       omega arith,
       omega arith,
-      elim c.if-does-differ.branch [ then-does-differ w ↦ omega (arith, w.differing-is) | else-does-differ w ↦ omega (arith, w.differing-is) ],
+      elim c.if-does_differ.branch [ then-does_differ w ↦ omega (arith, w.differing-is) | else-does_differ w ↦ omega (arith, w.differing-is) ],
       subst (λ (g : History). SeesAll n k places g c.after-watcher.result) (sym more) seen,
       λ kept.
           let all = subst (λ (g : History). AllOwed n k places g) more kept in
-          elim c.if-does-differ.branch [
-            | then-does-differ w ↦ absurd (both_ways _ (c.does-differ.ensures.fair h l.invariant.3 all.0) w.if-does-differ.true)
-            | else-does-differ w ↦ w.differing-is ∙ l.invariant.4 all.1
+          elim c.if-does_differ.branch [
+            | then-does_differ w ↦ absurd (both_ways _ (c.does_differ.ensures.fair h l.invariant.3 all.0) w.if-does_differ.true)
+            | else-does_differ w ↦ w.differing-is ∙ l.invariant.4 all.1
           ],
       λ none.
           subst (λ (g : History). WatchedOwed n k places g) (sym more)
-          (elim c.if-does-differ.branch [
-            | then-does-differ w ↦ absurd (omega (arith, w.differing-is))
-            | else-does-differ w ↦ (λ p e b. c.does-differ.ensures.found h l.invariant.3 p e b w.if-does-differ.false, l.invariant.5 (sym w.differing-is ∙ none))
+          (elim c.if-does_differ.branch [
+            | then-does_differ w ↦ absurd (omega (arith, w.differing-is))
+            | else-does_differ w ↦ (λ p e b. c.does_differ.ensures.found h l.invariant.3 p e b w.if-does_differ.false, l.invariant.5 (sym w.differing-is ∙ none))
           ]),
     )

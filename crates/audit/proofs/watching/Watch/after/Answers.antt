@@ -24,14 +24,14 @@ returns c =
     ] in
     let written : c.if-granted-2.written ≡ (granted c.args.answer && writes w.place c.args.call) =
     elim c.if-granted-2.branch [
-      | then-granted-2 v ↦ v.written-is ∙ v.does-write-written.ensures ∙ ap (λ g. g && writes w.place c.args.call) (sym v.if-granted-2.true ∙ is)
+      | then-granted-2 v ↦ v.written-is ∙ v.does_write-written.ensures ∙ ap (λ g. g && writes w.place c.args.call) (sym v.if-granted-2.true ∙ is)
       | else-granted-2 v ↦ v.written-is ∙ v.if-granted-2.false ∙ sym (and_left (granted c.args.answer) (writes w.place c.args.call) (sym is ∙ v.if-granted-2.false))
     ] in
-    let few = c.upset-cells-few.ensures ∙ ap (number_of (marked u.upset)) c.cells.ensures.all in
+    let few = c.upset_cells-few.ensures ∙ ap (number_of (marked u.upset)) c.cells.ensures.all in
     let held =
-    c.keep-in-hand.ensures ∙ ap (λ (b : Bool). cond b true (w.in_hand && ltb c.upset-cells-few.result 3)) written ∙
+    c.keep_in_hand.ensures ∙ ap (λ (b : Bool). cond b true (w.in_hand && ltb c.upset_cells-few.result 3)) written ∙
     ap (λ (n : ℕ). cond (granted c.args.answer && writes w.place c.args.call) true (w.in_hand && ltb n 3)) few in
     record {
       here = step.here;
-      seen = λ h s. sees_next cells lanes d h w u s step c.keep-in-hand.result held;
+      seen = λ h s. sees_next cells lanes d h w u s step c.keep_in_hand.result held;
     }

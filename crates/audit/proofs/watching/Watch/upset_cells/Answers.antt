@@ -10,9 +10,9 @@ loop-cell-preserved c =
     let low = l.invariant.0 in
     elim c.if-self-cell.branch [
       | then-self-cell w ↦
-          let e = w.count_is in
+          let e = w.count-is in
           (omega arith, count_more (marked c.args.self.now.upset) l.cell l.count c.if-self-cell.count true w.if-self-cell.true l.invariant.1 e)
       | else-self-cell w ↦
-          let e = w.count_is in
+          let e = w.count-is in
           (omega arith, count_more (marked c.args.self.now.upset) l.cell l.count c.if-self-cell.count false w.if-self-cell.false l.invariant.1 (omega arith))
     ]
