@@ -1,5 +1,5 @@
 -- A command's text is that of the call it asks for. Assumes nothing.
-use Rattle.std.proofs.Common.{◌≡◌, List, [], ◌∷◌, ◌++◌, sym, refl, ap, ◌∙◌, subst}
+use Rattle.std.proofs.Common.{◌≡◌, ◌∷◌, ◌++◌, refl, ap, ◌∙◌, subst}
 use Rattle.unit.specs.declared.calls.Call.TheVariants as call
 use Rattle.lines.specs.Hex.{hex}
 use Rattle.lines.specs.Texts.{line_of}

@@ -1,7 +1,6 @@
 -- The text of each call, and the text of each answer. Assumes nothing.
 use Rattle.std.specs.Prelude.{ℕ, List, [], ◌∷◌, ◌++◌, Some, None, Option}
 use Rattle.word.specs.Faults.{number_of}
-use Rattle.word.specs.declared.words.Word.{Word}
 use Rattle.word.specs.declared.faults.Fault.{Fault}
 use Rattle.error_log.specs.declared.records.FirstError.{FirstError}
 use Rattle.unit.specs.declared.calls.Call.{Call}

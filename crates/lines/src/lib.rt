@@ -1,4 +1,6 @@
 // The lines of a script, and the calls that they ask for.
+#![tactic(auto)]
+
 mod commands;
 mod hex;
 mod parsing;

@@ -12,16 +12,16 @@ pub overflow_add-value : goal.overflow_add-value
 overflow_add-value c =
     let i : c.loop-byte.byte-index < 16 = omega arith in
     let r : c.loop-byte.value < 2 ^ 60 = room_for_digit c.loop-byte.byte-index c.loop-byte.value i c.loop-byte.invariant.0 in
-    let d = (digit_some (get_or c.args.field.now c.loop-byte.byte-index 0) _ c.in_ok-value.ensures.told).0 in
+    let d = (digit_some (get_or c.args.field.now c.loop-byte.byte-index 0) _ c.in_ok-value.ensures.exact).0 in
     search rules
 
 pub returns-in_err-value : goal.returns-in_err-value
 returns-in_err-value c =
-    rw c.from_residual.ensures (λ v _. no_number c.args.field.now c.loop-byte.byte-index c.loop-byte-test.true (digit_none (get_or c.args.field.now c.loop-byte.byte-index 0) c.in_err-value.ensures.told) v)
+    rw c.from_residual.ensures (λ v _. no_number c.args.field.now c.loop-byte.byte-index c.loop-byte-test.true (digit_none (get_or c.args.field.now c.loop-byte.byte-index 0) c.in_err-value.ensures.exact) v)
 
 pub loop-byte-preserved : goal.loop-byte-preserved
 loop-byte-preserved c =
-    let d = digit_some (get_or c.args.field.now c.loop-byte.byte-index 0) _ c.in_ok-value.ensures.told in
+    let d = digit_some (get_or c.args.field.now c.loop-byte.byte-index 0) _ c.in_ok-value.ensures.exact in
     number_more c.args.field.now c.loop-byte.byte-index c.loop-byte.value c.in_ok-value.field-0 c.loop-byte-test.true d.0 d.1 c.loop-byte.invariant.0 c.loop-byte.invariant.1
 
 pub returns : goal.returns
