@@ -1,5 +1,5 @@
 -- Zero stored at one place after the other. Assumes nothing.
-use Rattle.std.proofs.Common.{◌≡◌, ℕ, suc, ◌+◌, ◌-◌, ◌^◌, ◌<◌, min, List, [], ◌∷◌, ◌++◌, length, set, replicate, sym, refl, ap, ◌∙◌, subst, append_assoc, arith, lit<, length-append}
+use Rattle.std.proofs.Common.{◌≡◌, ℕ, suc, ◌+◌, ◌-◌, ◌<◌, min, [], ◌∷◌, ◌++◌, length, set, replicate, sym, ap, ◌∙◌, subst, append_assoc, arith, lit<, length-append}
 use Rattle.std.proofs.lemmas.List.{append-nil, set_at, length-replicate, replicate-append-replicate}
 use Rattle.word.specs.declared.words.Word.{Word}
 use Rattle.codes.specs.Tables.{code64}

@@ -1,15 +1,13 @@
 -- The calls of a script, and the promise over them. Assumes nothing.
-use Rattle.std.proofs.Common.{◌≡◌, ℕ, zero, suc, ◌+◌, List, [], ◌∷◌, ◌++◌, take, Some, None, Option, sym, refl, ap, ◌∙◌, subst, arith}
+use Rattle.std.proofs.Common.{◌≡◌, ℕ, suc, ◌+◌, List, [], ◌∷◌, ◌++◌, take, Some, None, sym, refl, ap, ◌∙◌, subst, arith}
 use Rattle.code.specs.Codes.{CodeModel, CodeLaws}
 use Rattle.card.specs.Cards.{CardModel, CardLaws}
 use Rattle.parts.specs.Units.{UnitState}
 use Rattle.unit.specs.Steps.{step}
-use Rattle.runs.specs.Histories.{past}
-use Rattle.runs.specs.Runs.{new_unit, answers, final, Kept}
+use Rattle.runs.specs.Runs.{new_unit, final, Kept}
 use Rattle.unit.specs.declared.calls.Call.{Call}
 use Rattle.runs.proofs.Keeping.{runs_keep}
-use Rattle.lines.specs.Texts.{answer_text}
-use Rattle.script.specs.Scripts.{Line, Asked, reply, End, after, Ran, done, stop, line, CallsOf, none, silent, asks, GoesOn}
+use Rattle.script.specs.Scripts.{Line, End, Ran, done, stop, line, CallsOf, none, silent, asks, GoesOn}
 
 module _ (c : CodeModel) (m : CardModel) where
   final_append : (s : UnitState m.State) (a b : List Call) → final c m s (a ++ b) ≡ final c m (final c m s a) b

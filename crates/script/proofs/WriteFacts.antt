@@ -5,7 +5,7 @@ use Rattle.unit.specs.declared.calls.Answer.{Answer}
 use Rattle.unit.specs.declared.calls.Answer.TheVariants.{Done, Gave, Merged, LogWord, FirstWas, Refused}
 use Rattle.lines.specs.Hex.{hex_digit, hex}
 use Rattle.lines.specs.Texts.{answer_text}
-use Rattle.script.specs.Written.{over, Wrote}
+use Rattle.script.specs.Written.{Wrote}
 
 pub wrote_none : (xs : List ℕ) (at : ℕ) → Wrote xs at [] xs at
 wrote_none xs at = record {

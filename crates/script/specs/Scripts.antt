@@ -1,5 +1,5 @@
 -- Scripts: their lines, and what it means to run them. Assumes nothing.
-use Rattle.std.specs.Prelude.{◌≡◌, ℕ, suc, ◌+◌, ◌-◌, ◌<◌, ◌≤◌, Bool, true, false, cond, List, [], ◌∷◌, ◌++◌, length, take, Some, None, Option, ◌==◌}
+use Rattle.std.specs.Prelude.{◌≡◌, ℕ, ◌+◌, ◌-◌, ◌<◌, ◌≤◌, Bool, true, false, cond, List, [], ◌∷◌, ◌++◌, length, take, Some, None, Option, ◌==◌}
 use Rattle.word.specs.Faults.{arisen}
 use Rattle.word.specs.declared.refusals.Refusal.TheVariants.{Line as LINE}
 use Rattle.code.specs.Codes.{CodeModel}

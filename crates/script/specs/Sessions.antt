@@ -1,5 +1,5 @@
 -- A run of the program. Assumes nothing.
-use Rattle.std.specs.Prelude.{◌≡◌, ℕ, zero, suc, ◌-◌, ◌<◌, ◌≤◌, List, [], ◌∷◌, ◌++◌, length, take, drop, replicate}
+use Rattle.std.specs.Prelude.{◌≡◌, ℕ, zero, suc, ◌-◌, ◌≤◌, List, [], ◌∷◌, ◌++◌, length, take, drop, replicate}
 use Rattle.word.specs.Words.{of_value}
 use Rattle.word.specs.declared.words.Word.{Word}
 use Rattle.code.specs.Codes.{codeword}

@@ -1,4 +1,6 @@
 // Scripts: lines of text in, lines of text out, on a unit.
+#![tactic(auto)]
+
 mod printing;
 mod running;
 mod session;

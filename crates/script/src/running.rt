@@ -1,11 +1,11 @@
 // A script run on a unit.
-ghost use Rattle.std.specs.Prelude.{◌≡◌, ℕ, ◌+◌, ◌-◌, ◌^◌, ◌<◌, ◌≤◌, List, length, take, drop, if◌then◌else◌, ◌≢◌, slice_index};
+ghost use Rattle.std.specs.Prelude.{◌≡◌, ℕ, ◌+◌, ◌-◌, ◌^◌, ◌<◌, ◌≤◌, List, length, take, drop, MatchBool, ◌≢◌, slice_index};
 ghost use Rattle.unit.specs.States.{state_of};
 ghost use Rattle.runs.specs.Runs.{new_unit, final};
 ghost use Rattle.unit.specs.declared.calls.Call.{Call as Called};
 ghost use Rattle.lines.specs.Texts.{answer_text};
 ghost use Rattle.script.specs.Written.{Wrote};
-ghost use Rattle.script.specs.Scripts.{Line, Asked, lines as cut-lines, reply as replied, Ran, GoesOn};
+ghost use Rattle.script.specs.Scripts.{Line, Asked, lines as cut_lines, reply as replied, Ran, GoesOn};
 
 use crate::printing::print;
 use card::Card;
@@ -63,7 +63,7 @@ fn answer_to<C: Code, D: Card>(unit: &mut Unit<C, D>, call: Option<Call>) -> Ans
 // Whether one more line of output is sure to fit behind the bytes written.
 fn has_room(out: &[u8], written: usize) -> bool
     requires { written ≤ length out.now }
-    ensures { if result then (32 ≤ length out.now - written) else (length out.now - written < 32) }
+    ensures { MatchBool result (32 ≤ length out.now - written) (length out.now - written < 32) }
 {
     out.len() - written >= LINE_MOST
 }
@@ -85,8 +85,8 @@ fn tell(out: &mut [u8], report: Report, answer: Answer) -> Report
 
 // Runs a script on a unit, and writes the answers, a line each, into the output.
 pub fn run<C: Code, D: Card>(unit: &mut Unit<C, D>, script: &[u8], out: &mut [u8]) -> Report
-    ensures ran { Ran C.Code.code D.Card.model (state_of D.Card.state unit.old) (length out.old) (cut-lines script.now) (record { state = state_of D.Card.state unit.new; text = take result.written out.new; count = result.lines; stopped = result.stopped }) }
-    ensures promise { (t : D.Card.model.State) (before : List Called) → state_of D.Card.state unit.old ≡ final C.Code.code D.Card.model (new_unit C.Code.code D.Card.model t) before → GoesOn C.Code.code D.Card.model (cut-lines script.now) result.lines t before (state_of D.Card.state unit.new) }
+    ensures ran { Ran C.Code.code D.Card.model (state_of D.Card.state unit.old) (length out.old) (cut_lines script.now) (record { state = state_of D.Card.state unit.new; text = take result.written out.new; count = result.lines; stopped = result.stopped }) }
+    ensures promise { (t : D.Card.model.State) (before : List Called) → state_of D.Card.state unit.old ≡ final C.Code.code D.Card.model (new_unit C.Code.code D.Card.model t) before → GoesOn C.Code.code D.Card.model (cut_lines script.now) result.lines t before (state_of D.Card.state unit.new) }
     ensures within { result.written ≤ length out.old }
     ensures rest { drop result.written out.new ≡ drop result.written out.old }
 {

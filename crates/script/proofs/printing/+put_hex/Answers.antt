@@ -9,5 +9,5 @@ returns-then-digits-eq0 t c = wrote_as (sym (hex_none c.args.digits c.args.value
 pub returns : goal.returns
 returns t c =
     let inside : c.args.at ≤ length c.args.out.now = omega arith in
-    let digit = ap (λ d. (d ∷ []) ++ hex (c.args.digits - 1) c.args.value) c.digit-of-digit.ensures in
-    wrote_as (digit ∙ hex_some c.args.digits c.args.value c.if-digits-eq0.false) (wrote_more inside c.put-next.ensures c.put-hex.ensures)
+    let digit = ap (λ d. (d ∷ []) ++ hex (c.args.digits - 1) c.args.value) c.digit_of-digit.ensures in
+    wrote_as (digit ∙ hex_some c.args.digits c.args.value c.if-digits-eq0.false) (wrote_more inside c.put-next.ensures c.put_hex.ensures)

@@ -1,9 +1,9 @@
-use Rattle.std.proofs.Common.{◌≡◌, ap, ◌∙◌, arith}
+use Rattle.std.proofs.Common.{ap, ◌∙◌, arith}
 use Rattle.codes.specs.Tables.{code64}
 use Rattle.card.specs.Builtin.{builtin_card}
 use Rattle.card.specs.Cards.{write_state}
 use Rattle.parts.specs.Units.{unit_card}
-use Rattle.script.proofs.FreshFacts.{started, start_more, started_all}
+use Rattle.script.proofs.FreshFacts.{start_more, started_all}
 use Rattle.script.proofs.session.bring_up.Goals as goal
 
 pub loop-place-preserved : goal.loop-place-preserved

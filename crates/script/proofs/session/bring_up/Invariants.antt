@@ -1,4 +1,4 @@
-use Rattle.std.proofs.Common.{◌≡◌, ◌≤◌}
+use Rattle.std.proofs.Common.{◌≡◌}
 use Rattle.card.specs.Builtin.{builtin_of}
 use Rattle.unit.specs.States.{state_of}
 use Rattle.script.proofs.FreshFacts.{started}
