@@ -9,7 +9,7 @@ use card::Card;
 use word::{Fault, Refusal, Word, lanes_of};
 
 // What the number of ones of a lane and its parity bit is together.
-#[derive(Clone, Copy)]
+#[derive(Clone, Copy, PartialEq, Eq, Debug)]
 pub enum Sense {
     Even = 0,
     Odd = 1,

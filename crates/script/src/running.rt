@@ -18,7 +18,7 @@ use word::{Fault, Refusal};
 pub const LINE_MOST: usize = 32;
 
 // How a run ended.
-#[derive(Clone, Copy, Debug)]
+#[derive(Clone, Copy, PartialEq, Eq, Debug)]
 pub struct Report {
     // how many lines were run, refused ones too
     pub lines: usize,

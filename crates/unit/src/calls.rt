@@ -9,7 +9,7 @@ use code::Code;
 use error_log::FirstError;
 use word::{Fault, Word};
 
-#[derive(Clone, Copy)]
+#[derive(Clone, Copy, PartialEq, Eq, Debug)]
 pub enum Call {
     // place
     Read(u16),
@@ -26,7 +26,7 @@ pub enum Call {
     Clear,
 }
 
-#[derive(Clone, Copy)]
+#[derive(Clone, Copy, PartialEq, Eq, Debug)]
 pub enum Answer {
     // granted, with nothing to tell
     Done,

@@ -5,7 +5,7 @@ ghost use Rattle.word.specs.Faults.{arisen, passed, sided, Above};
 use crate::refusals::Refusal;
 
 // Which of a pair's two cards.
-#[derive(Clone, Copy)]
+#[derive(Clone, Copy, PartialEq, Eq, Debug)]
 pub enum Side {
     Low = 0,
     High = 1,
