@@ -1,6 +1,6 @@
 -- A buffer of a caller in C, and the unit that each call puts over it. Assumes nothing.
 use Rattle.std.specs.Prelude.{ℕ, List, Ok, Err, Result}
-use Rattle.std.specs.Borrow.{Bor}
+use Rattle.std.specs.Borrow.{MutBor}
 use Rattle.word.specs.Faults.{number_of}
 use Rattle.word.specs.declared.words.Word.{Word}
 use Rattle.word.specs.declared.faults.Fault.{Fault}
@@ -15,7 +15,7 @@ abbrev pub board : CardModel
 board = unit_card code64 byte_card
 
 -- with a new log over the caller's buffer
-abbrev pub over : Bor (List ℕ) → UnitState ByteState
+abbrev pub over : MutBor (List ℕ) → UnitState ByteState
 over bytes = record { log = new_log; card = lent 72 bytes }
 
 -- 0, or the number of the refusal

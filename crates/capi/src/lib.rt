@@ -1,4 +1,6 @@
 // The 64-bit code for callers in C.
+#![tactic(auto)]
+
 mod boards;
 mod sessions;
 

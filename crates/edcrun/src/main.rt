@@ -1,4 +1,6 @@
 // Runs the script on standard input on a fresh 64-bit unit, and writes the answers to standard output.
+#![tactic(auto)]
+
 use script::{OUTPUT, SCRIPT_MOST, run_session, space_line};
 use std::io;
 use std::io::{Read, Write};

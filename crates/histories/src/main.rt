@@ -1,4 +1,6 @@
 // Prints histories of calls with the words of the promise beside each call. The words are worked out from the calls made and their answers alone.
+#![tactic(auto)]
+
 mod drawing;
 mod tables;
 mod telling;

@@ -1,5 +1,7 @@
 // Stories of calls on several boards, and scripts at their edges. Beside each line stands the answer that the rules make of it, worked out by hand;
 // the program makes the call and compares.
+#![tactic(auto)]
+
 mod boards;
 mod edges;
 
