@@ -1,6 +1,6 @@
 -- Worked values of the codes. Assumes nothing.
 use Rattle.std.specs.Prelude.{◌≡◌, ℕ, ◌-◌, ◌^◌, List, [], ◌∷◌}
-use Rattle.std.specs.List.{AllByRecursion as All}
+use Rattle.std.specs.List.{AllByRecursion}
 use Rattle.code.specs.Codes.{CodeModel, generated, located}
 use Rattle.codes.specs.Tables.{code16, code32, code64}
 use Rattle.codes.specs.Cascade.{cascaded64}
@@ -35,4 +35,4 @@ worked =
     ∷ []
 
 abbrev pub WorkedHold : Type 0
-WorkedHold = All Holds worked
+WorkedHold = AllByRecursion Holds worked
