@@ -1,7 +1,7 @@
 // What the calls made so far and their answers tell of one place.
 ghost use Rattle.std.specs.Prelude.{◌≡◌, ℕ, ◌+◌, ◌*◌, ◌/◌, ◌<◌, ◌≤◌, true, false, not, ◌&&◌, [], ◌∷◌, if◌then◌else◌};
 ghost use Rattle.word.specs.Words.{value};
-ghost use Rattle.runs.specs.Histories.{History, granted as is-granted, writes, stores, hits, number_of, of_cells, merged_cell, laid_by};
+ghost use Rattle.runs.specs.Histories.{History, granted as is_granted, writes, stores, hits, number_of, of_cells, merged_cell, laid_by};
 ghost use Rattle.audit.specs.Watching.{marked, Sees, Told};
 
 use crate::shapes::Shape;
@@ -22,7 +22,7 @@ pub struct Watch {
 
 // Not refused.
 fn grants(answer: Answer) -> bool
-    ensures { result ≡ is-granted answer }
+    ensures { result ≡ is_granted answer }
 {
     match answer {
         Answer::Refused(_) => false,

@@ -1,6 +1,6 @@
 // Raw words decoded.
 ghost use Rattle.std.specs.Prelude.{◌≡◌, ℕ, ◌<◌, bit_xor};
-ghost use Rattle.code.specs.Codes.{generated, located as located-by};
+ghost use Rattle.code.specs.Codes.{generated, located as located_by};
 ghost use Rattle.code.specs.Decoding.{corrected, decoded_parts};
 
 use crate::codes::Code;
@@ -23,7 +23,7 @@ pub fn decode<C: Code>(code: &C, data: u64, check: u8) -> Result<u64, Refusal>
 
 // The data of a raw word that has this syndrome, with a single wrong cell put right, or a refusal.
 pub fn correct<C: Code>(code: &C, data: u64, syndrome: u8) -> Result<u64, Refusal>
-    ensures { result ≡ corrected «data» (located-by C.Code.code syndrome) }
+    ensures { result ≡ corrected «data» (located_by C.Code.code syndrome) }
 {
     code.correct(data, syndrome)
 }

@@ -154,16 +154,16 @@ module _ (l h : CardModel) (lower : CardLaws l) (upper : CardLaws h) where
       Ok high ≡ read_answer h s.high p → t.high ≡ read_state h s.high p →
       (Ok (of_value ((value low + 2 ^ l.width s.low * value high) % 2 ^ 72)) ≡ read_answer (pair_card l h) s p) ×
       (t ≡ read_state (pair_card l h) s p)
-  both_read s t p low high k low_read low-after high_read high_after =
+  both_read s t p low high k low_read low_after high_read high_after =
       let at = placed s p k in
       let low-is = sym (low_read ∙ read_entered l s.low p at.in_low) in
       let high_is = sym (high_read ∙ read_entered h s.high p at.in_high) in
       let whole = joined_shown (l.width s.low) (h.width s.high) (l.entry s.low p) (h.entry s.high p) low high at.fitting
       (lower.within s.low p at.in_low) (upper.within s.high p at.in_high) low-is high_is in
       let both = read_unless_faulty (l.entry s.low p) low (h.after_read s.high p) s.high low-is in
-      let low-led = low-after ∙ read_leads l s.low p at.in_low in
-      let high-led = high_after ∙ read_leads h s.high p at.in_high ∙ sym both in
-      let led : t ≡ (pair_card l h).after_read s p = λ i. record { low = low-led i; high = high-led i } in
+      let low_led = low_after ∙ read_leads l s.low p at.in_low in
+      let high_led = high_after ∙ read_leads h s.high p at.in_high ∙ sym both in
+      let led : t ≡ (pair_card l h).after_read s p = λ i. record { low = low_led i; high = high_led i } in
       (whole ∙ sym (read_entered (pair_card l h) s p k), led ∙ sym (read_leads (pair_card l h) s p k))
 
   -- a write that the pair lets pass is not refused by its high card, which gets the high part

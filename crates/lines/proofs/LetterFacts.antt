@@ -15,16 +15,16 @@ module _ (l : ℕ) (xs : List ℕ)
     (write : 87 ≡ l → (p w : ℕ) → p < 2 ^ 16 → w < 2 ^ 64 → xs ≡ (32 ∷ hex 4 p) ++ (32 ∷ hex 16 w) → ⊥)
     (merge : 77 ≡ l → (p e w : ℕ) → p < 2 ^ 16 → e < 2 ^ 8 → w < 2 ^ 64 → xs ≡ (32 ∷ hex 4 p) ++ ((32 ∷ hex 2 e) ++ (32 ∷ hex 16 w)) → ⊥)
     (inject : 73 ≡ l → (p x : ℕ) → p < 2 ^ 16 → x < 2 ^ 8 → xs ≡ (32 ∷ hex 4 p) ++ (32 ∷ hex 2 x) → ⊥)
-    (takes-fields : (76 ≡ l → ⊥) × (70 ≡ l → ⊥) × (67 ≡ l → ⊥)) where
+    (takes_fields : (76 ≡ l → ⊥) × (70 ≡ l → ⊥) × (67 ≡ l → ⊥)) where
   pub no_call : (c : Call) → Scripted c → l ≡ letter_of c → xs ≡ fields_of c → ⊥
   no_call (Read p) s e f = one (inl (sym e)) p s f
   no_call (Write p w) s e f = write (sym e) p w.low s.0 s.1 f
   no_call (Merge p w n) s e f = merge (sym e) p n w.low s.0 s.3 s.1 f
   no_call (Scrub p) s e f = one (inr (sym e)) p s f
   no_call (Inject p x) s e f = inject (sym e) p x s.0 s.1 f
-  no_call Log s e f = takes-fields.0 (sym e)
-  no_call First s e f = takes-fields.1 (sym e)
-  no_call Clear s e f = takes-fields.2 (sym e)
+  no_call Log s e f = takes_fields.0 (sym e)
+  no_call First s e f = takes_fields.1 (sym e)
+  no_call Clear s e f = takes_fields.2 (sym e)
 
 -- a letter alone
 pub alone : (l k : ℕ) (xs : List ℕ) → l ≡ k → eqb (length xs) 0 ≡ true → l ∷ xs ≡ k ∷ []

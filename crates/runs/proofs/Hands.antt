@@ -76,13 +76,13 @@ module _ (c : CodeModel) (m : CardModel) (cl : CodeLaws c) where
         (T (is_in_hand (c.n + c.k) (d ∷ h) q) → laid_by (c.n / 8) (last_laid (c.n / 8) h q) d.call ≡ v) → T (is_in_hand (c.n + c.k) (d ∷ h) q) → Hand (d ∷ h) u q
     stored_hand q v l b put loud laid t' =
         let none = upset_none (c.n + c.k) (c.n / 8) d h q loud in
-        let zero-cells : upset_cells (c.n + c.k) (d ∷ h) q ≡ 0 = number_same (λ _. false) (upset (d ∷ h) q) (c.n + c.k) (λ x _. none x) ∙ none_pass (c.n + c.k) in
+        let zero_cells : upset_cells (c.n + c.k) (d ∷ h) q ≡ 0 = number_same (λ _. false) (upset (d ∷ h) q) (c.n + c.k) (λ x _. none x) ∙ none_pass (c.n + c.k) in
         let word = laid_new (c.n + c.k) (c.n / 8) d h q loud ∙ laid t' in
         record {
           there = subst (λ k. q < k) (sym put.count) l;
           word = subst (λ k. k < 2 ^ c.n) (sym word) b;
           entry = put.here ∙ ap holds (ap (codeword c) (sym word) ∙ sym (xor_zero_r (codeword c (last_laid (c.n / 8) (d ∷ h) q))) ∙
-              ap (bit_xor (codeword c (last_laid (c.n / 8) (d ∷ h) q))) (sym (mask_none (upset (d ∷ h) q) (c.n + c.k) zero-cells)));
+              ap (bit_xor (codeword c (last_laid (c.n / 8) (d ∷ h) q))) (sym (mask_none (upset (d ∷ h) q) (c.n + c.k) zero_cells)));
           few = omega arith;
         }
 
@@ -94,7 +94,7 @@ module _ (c : CodeModel) (m : CardModel) (cl : CodeLaws c) where
         let laid = laid_kept (c.n + c.k) (c.n / 8) d h q quiet in
         let word = last_laid (c.n / 8) h q in
         let same = sym is ∙ hand.entry in
-        let raw-is : raw ≡ bit_xor (codeword c word) (mask (upset h q) (c.n + c.k)) = cc in
+        let raw_is : raw ≡ bit_xor (codeword c word) (mask (upset h q) (c.n + c.k)) = cc in
         let turned : mask (upset (d ∷ h) q) (c.n + c.k) ≡ bit_xor (mask (upset h q) (c.n + c.k)) (2 ^ x) =
         mask_toggled (upset h q) (upset (d ∷ h) q) (c.n + c.k) x l
         (upset_turned (c.n + c.k) (c.n / 8) d h q quiet x (hit x ∙ eq-eqb x x refl))
@@ -102,7 +102,7 @@ module _ (c : CodeModel) (m : CardModel) (cl : CodeLaws c) where
         record {
           there = subst (λ k. q < k) (sym put.count) hand.there;
           word = subst (λ v. v < 2 ^ c.n) (sym laid) hand.word;
-          entry = put.here ∙ ap (λ r. holds (bit_xor r (2 ^ x))) raw-is ∙ ap holds (xor_assoc (codeword c word) (mask (upset h q) (c.n + c.k)) (2 ^ x)) ∙
+          entry = put.here ∙ ap (λ r. holds (bit_xor r (2 ^ x))) raw_is ∙ ap holds (xor_assoc (codeword c word) (mask (upset h q) (c.n + c.k)) (2 ^ x)) ∙
               ap (λ k. holds (bit_xor (codeword c word) k)) (sym turned) ∙ ap (λ v. holds (bit_xor (codeword c v) (mask (upset (d ∷ h) q) (c.n + c.k)))) (sym laid);
           few = few_upset (c.n + c.k) d h q (not_written q quiet) t';
         }

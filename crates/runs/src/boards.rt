@@ -8,7 +8,7 @@ ghost use Rattle.layers.specs.Pairs.{pair_card};
 ghost use Rattle.layers.specs.Parities.{parity_card};
 ghost use Rattle.error_log.specs.Logs.{new_log};
 ghost use Rattle.parts.specs.Units.{unit_card};
-ghost use Rattle.runs.specs.Runs.{new_unit, answers as answers-to, Promised};
+ghost use Rattle.runs.specs.Runs.{new_unit, answers as answers_to, Promised};
 
 use crate::running::run_calls;
 use card::{BuiltinCard, ByteCard};
@@ -19,7 +19,7 @@ use unit::{Answer, Call, Unit};
 // Makes calls on a new 64-bit unit over the built-in card, and answers how many.
 pub fn run_on_builtin(calls: &[Call], answers: &mut [Answer]) -> usize
     ensures made { result ≡ min (length calls.now) (length answers.old) }
-    ensures told { answers.new ≡ answers-to code64 builtin_card (new_unit code64 builtin_card (blank 72)) (take result calls.now) ++ drop result answers.old }
+    ensures told { answers.new ≡ answers_to code64 builtin_card (new_unit code64 builtin_card (blank 72)) (take result calls.now) ++ drop result answers.old }
     ensures promised { Promised code64 builtin_card (take result calls.now) (take result answers.new) }
 {
     let ran = run_calls(Code64, BuiltinCard::new(72), calls, answers);
@@ -38,7 +38,7 @@ fn run_on_bytes(bytes: &mut [u8], calls: &[Call], answers: &mut [Answer]) -> usi
 // Makes calls on a new cascaded unit over a pair of a parity layer and a 32-bit unit, and answers how many.
 pub fn run_on_pair(sense: Sense, calls: &[Call], answers: &mut [Answer]) -> usize
     ensures made { result ≡ min (length calls.now) (length answers.old) }
-    ensures told { answers.new ≡ answers-to cascaded64 (pair_card (parity_card builtin_card) (unit_card code32 builtin_card)) (new_unit cascaded64 (pair_card (parity_card builtin_card) (unit_card code32 builtin_card)) (record { low = record { sense = sense; card = blank 45 }; high = record { log = new_log; card = blank 39 } })) (take result calls.now) ++ drop result answers.old }
+    ensures told { answers.new ≡ answers_to cascaded64 (pair_card (parity_card builtin_card) (unit_card code32 builtin_card)) (new_unit cascaded64 (pair_card (parity_card builtin_card) (unit_card code32 builtin_card)) (record { low = record { sense = sense; card = blank 45 }; high = record { log = new_log; card = blank 39 } })) (take result calls.now) ++ drop result answers.old }
     ensures promised { Promised cascaded64 (pair_card (parity_card builtin_card) (unit_card code32 builtin_card)) (take result calls.now) (take result answers.new) }
 {
     let low = ParityCard::new(sense, BuiltinCard::new(45));

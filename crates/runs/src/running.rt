@@ -4,7 +4,7 @@ ghost use Rattle.runs.specs.Histories.{past};
 ghost use Rattle.unit.specs.States.{state_of};
 ghost use Rattle.unit.specs.Steps.{step};
 ghost use Rattle.unit.specs.declared.calls.Call.TheVariants.{Read};
-ghost use Rattle.runs.specs.Runs.{new_unit, answers as answers-to, final, Kept};
+ghost use Rattle.runs.specs.Runs.{new_unit, answers as answers_to, final, Kept};
 
 use card::Card;
 use code::Code;
@@ -52,7 +52,7 @@ pub fn run_calls<C: Code, D: Card>(
     answers: &mut [Answer],
 ) -> Ran<C, D>
     ensures made { result.made ≡ min (length calls.now) (length answers.old) }
-    ensures told { answers.new ≡ answers-to C.Code.code D.Card.model (new_unit C.Code.code D.Card.model (D.Card.state card)) (take result.made calls.now) ++ drop result.made answers.old }
+    ensures told { answers.new ≡ answers_to C.Code.code D.Card.model (new_unit C.Code.code D.Card.model (D.Card.state card)) (take result.made calls.now) ++ drop result.made answers.old }
     ensures after { state_of D.Card.state result.unit ≡ final C.Code.code D.Card.model (new_unit C.Code.code D.Card.model (D.Card.state card)) (take result.made calls.now) }
     ensures kept { Kept C.Code.code D.Card.model (past [] (take result.made calls.now) (take result.made answers.new)) (state_of D.Card.state result.unit) }
 {
