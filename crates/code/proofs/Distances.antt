@@ -1,6 +1,6 @@
 -- What the laws of a code give: syndromes of flipped words, and how far codewords lie apart. Assumes nothing.
 use Rattle.std.proofs.Common.{◌≡◌, ℕ, ◌+◌, ◌-◌, ◌*◌, ◌/◌, ◌%◌, ◌^◌, ◌<◌, ◌≤◌, eqb, length, get_or, sym, refl, ap, ◌∙◌, ⊎_elim, mod-eq_of_lt, mul_comm, add_comm, zero-add, mul-one, arith, pow_pos, pow-add}
-use native.Mathlib.Nat.{mod_mod, div-eq_of_lt, div-add-mod}
+use native.Mathlib.Nat.{mod-mod, div-eq_of_lt, div-add-mod}
 use lib.Bits.{bit_xor, xor_assoc, xor_comm, xor_self, xor_zero_r, xor_mod, xor_shr, xor_lt}
 use lib.Count.{ones, ones_in}
 use Rattle.std.proofs.lemmas.Nat.{shl-shr, mod_low, pow_below, shr_below, mod_below, mul-add-lt, div-mul-add, mod-mul-add}
@@ -266,7 +266,7 @@ module _ (c : CodeModel) (laws : CodeLaws c) where
   located_data s i e = at (says (s % 2 ^ c.k) (mod_below s (2 ^ c.k) (pow_pos c.k)))
     where
       same : located c (s % 2 ^ c.k) ≡ Data i
-      same = ap (told c.k c.columns) (mod_mod s (2 ^ c.k)) ∙ e
+      same = ap (told c.k c.columns) (mod-mod s (2 ^ c.k)) ∙ e
 
       of_cell : (x : ℕ) → at_cell c x ≡ Data i → Cell x → i < c.n
       of_cell x f (of_data l _ g) = let y : x ≡ i = cc in omega arith
