@@ -1,7 +1,7 @@
 #!/usr/bin/env bash
-# Runs edcrun on standard input. Where target/bin has no edcrun yet, it is proved and linked first.
-top=$(cd "$(dirname "$0")" && pwd) || exit 2
-if [ ! -x "$top/target/bin/edcrun" ]; then
-  (cd "$top" && rt check edcrun) >&2 || exit 1
+# Runs edcrun on standard input. Where it has not been built yet, it is proved, with the libraries below it, and linked first.
+cd "$(dirname "$0")/crates/edcrun" || exit 2
+if [ ! -x out/edcrun ]; then
+  rt run < /dev/null > /dev/null || exit 1
 fi
-exec "$top/target/bin/edcrun"
+exec out/edcrun
