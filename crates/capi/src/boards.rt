@@ -21,7 +21,7 @@ pub extern "C" fn edc_write64(bytes: &mut [u8], place: u16, data: u64) -> u8
     let mut card = ByteCard::new(72, bytes);
     match write_over(&Code64, &mut card, place, Word { low: data, top: 0 }) {
         Ok(()) => 0,
-        Err(fault) => fault.refusal.number(),
+        Err(fault) => u8::from(fault.refusal),
     }
 }
 
@@ -40,7 +40,7 @@ pub extern "C" fn edc_read64(bytes: &mut [u8], place: u16, data: &mut u64, log: 
             *data = word.low;
             0
         }
-        Err(fault) => fault.refusal.number(),
+        Err(fault) => u8::from(fault.refusal),
     }
 }
 

@@ -32,6 +32,6 @@ pub extern "C" fn edc_decode64(data: &mut u64, check: u8) -> u8
             *data = word;
             0
         }
-        Err(refusal) => refusal.number(),
+        Err(refusal) => u8::from(refusal),
     }
 }

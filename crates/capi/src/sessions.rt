@@ -25,7 +25,7 @@ pub extern "C" fn edc_session(
         Err(refusal) => {
             *lines = 0;
             *written = 0;
-            refusal.number()
+            u8::from(refusal)
         }
     }
 }
@@ -34,5 +34,5 @@ pub extern "C" fn edc_session(
 fn status(stopped: bool) -> u8
     ensures { result ≡ (if stopped then 9 else 0) }
 {
-    if stopped { Refusal::Space.number() } else { 0 }
+    if stopped { u8::from(Refusal::Space) } else { 0 }
 }

@@ -12,7 +12,7 @@ use word::{Fault, Refusal, Side, Word};
 use worn::WornCard;
 
 fn tell_fault(rt: &impl Print, fault: Fault) -> io::Result<()> {
-    let number = fault.refusal.number();
+    let number = u8::from(fault.refusal);
     let place = fault.place;
     let depth = fault.depth;
     let way = fault.way;
@@ -22,7 +22,7 @@ fn tell_fault(rt: &impl Print, fault: Fault) -> io::Result<()> {
 fn tell_read<C: Card>(rt: &impl Print, card: &mut C, place: u16) -> io::Result<()> {
     match card.read(place) {
         Ok(word) => {
-            let number = word.number();
+            let number = u128::from(word);
             println!(rt; "= {number:018x}")
         }
         Err(fault) => tell_fault(rt, fault),

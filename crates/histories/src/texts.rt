@@ -11,7 +11,7 @@ pub struct WordText(pub Word);
 
 impl fmt::Display for WordText {
     fn fmt<W: fmt::Write>(&self, f: &mut fmt::Formatter<W>) -> fmt::Result {
-        let number = self.0.number();
+        let number = u128::from(self.0);
         write!(f, "{number:016x}")
     }
 }

@@ -99,7 +99,7 @@ fn put_first(out: &mut [u8], at: usize, error: FirstError) -> usize
 fn numbers_of(fault: Fault) -> (u64, u64, u64, u64)
     ensures { result ≡ (number_of fault.refusal, fault.place, fault.depth, fault.way) }
 {
-    let (number, place) = (fault.refusal.number() as u64, fault.place as u64);
+    let (number, place) = (u8::from(fault.refusal) as u64, fault.place as u64);
     let (depth, way) = (fault.depth as u64, fault.way as u64);
     (number, place, depth, way)
 }

@@ -1,22 +1,14 @@
 -- What becomes of a fault over many layers. Assumes nothing.
-use Rattle.std.proofs.Common.{◌≡◌, ℕ, ◌+◌, ◌*◌, ◌/◌, ◌%◌, ◌^◌, ◌<◌, ◌≤◌, min, List, [], ◌∷◌, ◌++◌, length, get_or, take, Some, None, Option, sym, refl, ap, ◌∙◌, mul_assoc, mul_comm, mul-add, mul_left_comm, arith, pow-add}
+use Rattle.std.proofs.Common.{◌≡◌, fold, ℕ, ◌+◌, ◌*◌, ◌/◌, ◌%◌, ◌^◌, ◌<◌, ◌≤◌, min, List, [], ◌∷◌, length, Some, None, Option, sym, refl, ap, ◌∙◌, mul_assoc, mul_comm, mul-add, mul_left_comm, arith, pow-add}
 use native.Mathlib.Nat.{div-add-mod, add-mul-mod_self_left}
-use Rattle.std.proofs.lemmas.List.{take_more}
 use Rattle.word.specs.Faults.{passed, sided, side_number, over_layer, over_layers, pairs_in, sides_number}
 use Rattle.word.specs.declared.faults.Fault.{Fault}
 use Rattle.word.specs.declared.faults.Side.{Side}
 
--- the highest layer comes last
-over_last : (ls : List (Option Side)) (l : Option Side) (f : Fault) → over_layers (ls ++ l ∷ []) f ≡ over_layer l (over_layers ls f)
-over_last [] l f = refl
-over_last (k ∷ ls) l f = over_last ls l (over_layer k f)
-
--- one layer more, for a fault that has come over the first i
-pub over_next : (ls : List (Option Side)) (i : ℕ) (l : Option Side) (f g h : Fault) → i < length ls → get_or ls i None ≡ l →
-    g ≡ over_layers (take i ls) f → h ≡ over_layer l g → h ≡ over_layers (take (i + 1) ls) f
-over_next ls i l f g h inside here below next =
-    let more : take (i + 1) ls ≡ take i ls ++ l ∷ [] = take_more ls i None inside ∙ ap (λ x. take i ls ++ x ∷ []) here in
-    rw more (next ∙ ap (over_layer l) below ∙ sym (over_last (take i ls) l f))
+-- layer by layer
+pub over_each : (ls : List (Option Side)) (f : Fault) → fold (λ g l. over_layer l g) f ls ≡ over_layers ls f
+over_each [] f = refl
+over_each (l ∷ ls) f = over_each ls (over_layer l f)
 
 -- the depth counts the layers, up to 255
 pub depth_over : (ls : List (Option Side)) (f : Fault) → f.depth ≤ 255 → (over_layers ls f).depth ≡ min 255 (f.depth + length ls)

@@ -1,5 +1,5 @@
 -- Faults: how they arise and what each layer makes of them. Assumes nothing.
-use Rattle.std.specs.Prelude.{◌≡◌, ℕ, ◌+◌, ◌*◌, ◌%◌, ◌^◌, min, List, [], ◌∷◌, length, Some, None, Option}
+use Rattle.std.specs.Prelude.{◌≡◌, ℕ, ◌+◌, ◌*◌, ◌%◌, ◌^◌, min, codes, List, [], ◌∷◌, length, Some, None, Option}
 use Rattle.word.specs.declared.faults.Fault.{Fault}
 use Rattle.word.specs.declared.faults.Side.{Side}
 use Rattle.word.specs.declared.faults.Side.TheVariants.{Low, High}
@@ -16,6 +16,18 @@ number_of Many = 6
 number_of Parity = 7
 number_of Line = 8
 number_of Space = 9
+
+-- the name by which people know it, as bytes
+abbrev pub name_of : Refusal → List ℕ
+name_of Place = codes "PLACE"
+name_of Wide = codes "WIDE"
+name_of Enable = codes "ENABLE"
+name_of Cell = codes "CELL"
+name_of Two = codes "TWO"
+name_of Many = codes "MANY"
+name_of Parity = codes "PARITY"
+name_of Line = codes "LINE"
+name_of Space = codes "SPACE"
 
 -- a fault where it arises
 abbrev pub arisen : Refusal → ℕ → Fault

@@ -1,6 +1,6 @@
 // A refusal with where it arose and how it came up.
-ghost use Rattle.std.specs.Prelude.{◌≡◌};
-ghost use Rattle.word.specs.Faults.{arisen, passed, sided, Above};
+ghost use Rattle.std.specs.Prelude.{◌≡◌, fold};
+ghost use Rattle.word.specs.Faults.{arisen, passed, sided, over_layer, Above};
 
 use crate::refusals::Refusal;
 
@@ -63,18 +63,23 @@ impl Fault {
     {
         climb(self, layers)
     }
+
+    // The same fault above one layer.
+    fn pass_up_over(self, layer: Option<Side>) -> Fault
+        ensures { result ≡ over_layer layer self }
+    {
+        match layer {
+            Some(side) => self.pass_up_from(side),
+            None => self.pass_up(),
+        }
+    }
 }
 
 // One layer after the other.
 fn climb(start: Fault, layers: &[Option<Side>]) -> Fault
-    ensures { Above layers.now start result }
+    ensures { result ≡ fold (λ fault layer. over_layer layer fault) start layers.now }
 {
-    let mut fault = start;
-    for layer in layers {
-        fault = match layer {
-            Some(side) => fault.pass_up_from(*side),
-            None => fault.pass_up(),
-        };
-    }
-    fault
+    layers
+        .iter()
+        .fold(start, |fault, layer| fault.pass_up_over(*layer))
 }

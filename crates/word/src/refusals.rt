@@ -1,6 +1,8 @@
 // Why a call is refused.
-ghost use Rattle.std.specs.Prelude.{◌≡◌};
-ghost use Rattle.word.specs.Faults.{number_of};
+ghost use Rattle.std.specs.Prelude.{◌≡◌, Some};
+ghost use Rattle.word.specs.Faults.{number_of, name_of};
+
+use std::fmt;
 
 // In the order in which the conditions are checked, but for a script's line, where 9 comes first, then 8, then the others.
 #[derive(Clone, Copy, PartialEq, Eq, Debug)]
@@ -25,11 +27,30 @@ pub enum Refusal {
     Space = 9,
 }
 
-impl Refusal {
-    // The number that is printed and told to planners.
-    pub fn number(self) -> u8
-        ensures { result ≡ number_of self }
-    {
-        self as u8
+// The number that is printed and told to planners.
+impl From<Refusal> for u8 {
+    ghost from_gives = { λ refusal number. number ≡ number_of refusal };
+
+    fn from(refusal: Refusal) -> u8 {
+        refusal as u8
+    }
+}
+
+// The name by which people know it.
+impl fmt::Display for Refusal {
+    ghost output = { λ refusal. Some (name_of refusal) };
+
+    fn fmt<W: fmt::Write>(&self, f: &mut fmt::Formatter<W>) -> fmt::Result {
+        f.write_str(match self {
+            Refusal::Place => "PLACE",
+            Refusal::Wide => "WIDE",
+            Refusal::Enable => "ENABLE",
+            Refusal::Cell => "CELL",
+            Refusal::Two => "TWO",
+            Refusal::Many => "MANY",
+            Refusal::Parity => "PARITY",
+            Refusal::Line => "LINE",
+            Refusal::Space => "SPACE",
+        })
     }
 }

@@ -1,6 +1,9 @@
 // A whole number below 2^72.
-ghost use Rattle.std.specs.Prelude.{◌≡◌, ◌+◌, ◌*◌, ◌/◌, ◌%◌, ◌^◌, ◌<◌, ltb, if◌then◌else◌, Some, None, nat_lt};
+ghost use Rattle.std.specs.Prelude.{◌≡◌, ◌+◌, ◌*◌, ◌/◌, ◌%◌, ◌^◌, ◌<◌, if◌then◌else◌, Ok, Err, nat_lt};
 ghost use Rattle.word.specs.Words.{value, of_value, toggled};
+ghost use Rattle.word.specs.declared.refusals.Refusal.TheVariants.{Wide};
+
+use crate::refusals::Refusal;
 
 // A cell is one bit of a word, cell 0 the lowest.
 #[derive(Clone, Copy, PartialEq, Eq, Debug)]
@@ -11,32 +14,47 @@ pub struct Word {
     pub top: u8,
 }
 
-impl Word {
-    pub const ZERO: Word = Word { low: 0, top: 0 };
+// The word of 64 cells.
+impl From<u64> for Word {
+    ghost from_gives = { λ low word. word ≡ record { low = low; top = 0 } };
 
-    // The word of a number, if it is below 2^72.
-    pub fn from_number(number: u128) -> Option<Word>
-        ensures { result ≡ (if ltb number (2 ^ 72) then Some (of_value number) else None) }
-    {
+    fn from(low: u64) -> Word {
+        Word { low, top: 0 }
+    }
+}
+
+// The word of a number, if it is below 2^72.
+impl TryFrom<u128> for Word {
+    type Error = Refusal;
+
+    ghost try_from_gives = { λ number word. word ≡ (if nat_lt number (2 ^ 72) then Ok (of_value number) else Err Wide) };
+
+    fn try_from(number: u128) -> Result<Word, Refusal> {
         if number < 0x100_0000_0000_0000_0000 {
-            Some(Word::narrow(number))
+            Ok(Word::narrow(number))
         } else {
-            None
+            Err(Refusal::Wide)
         }
     }
+}
 
-    pub fn number(self) -> u128
-        ensures whole { result ≡ value self }
-        ensures below { result < 2 ^ 72 }
-    {
-        self.low as u128 + self.top as u128 * 0x1_0000_0000_0000_0000
+// The number that a word is, which is below 2^72.
+impl From<Word> for u128 {
+    ghost from_gives = { λ word number. (number ≡ value word) × (number < 2 ^ 72) };
+
+    fn from(word: Word) -> u128 {
+        word.low as u128 + word.top as u128 * 0x1_0000_0000_0000_0000
     }
+}
+
+impl Word {
+    pub const ZERO: Word = Word { low: 0, top: 0 };
 
     // Whether the word is below 2^width.
     pub fn fits(self, width: u8) -> bool
         ensures { result ≡ nat_lt (value self) (2 ^ width) }
     {
-        is_below(self.number(), width)
+        u128::from(self) < 1u128 << width.min(72)
     }
 
     // The word with one cell complemented; no word has a cell from 72 on, and none changes for it.
@@ -62,10 +80,11 @@ impl Word {
     pub fn split(self, at: u8) -> (Word, Word)
         ensures { result ≡ (of_value (value self % 2 ^ at), of_value (value self / 2 ^ at)) }
     {
-        let number = self.number();
+        let number = u128::from(self);
+        let at = at.min(72);
         (
-            Word::narrow(cells_below(number, at)),
-            Word::narrow(cells_from(number, at)),
+            Word::narrow(number % (1u128 << at)),
+            Word::narrow(number >> at),
         )
     }
 
@@ -73,7 +92,8 @@ impl Word {
     pub fn join(low: Word, high: Word, at: u8) -> Word
         ensures { result ≡ of_value ((value low + 2 ^ at * value high) % 2 ^ 72) }
     {
-        Word::narrow(one_above(low.number(), high.number(), at))
+        let moved = (u128::from(high) << at.min(72)) % 0x100_0000_0000_0000_0000;
+        Word::narrow((moved + u128::from(low)) % 0x100_0000_0000_0000_0000)
     }
 
     // The word of a number that is known to be below 2^72.
@@ -86,41 +106,4 @@ impl Word {
             top: (number / 0x1_0000_0000_0000_0000) as u8,
         }
     }
-}
-
-// Whether a number is below 2^width.
-fn is_below(number: u128, width: u8) -> bool
-    requires { number < 2 ^ 72 }
-    ensures { result ≡ nat_lt number (2 ^ width) }
-{
-    number < 1u128 << width.min(72)
-}
-
-// The cells of a number below `at`.
-fn cells_below(number: u128, at: u8) -> u128
-    requires { number < 2 ^ 72 }
-    ensures part { result ≡ number % 2 ^ at }
-    ensures below { result < 2 ^ 72 }
-{
-    number % (1u128 << at.min(72))
-}
-
-// The cells of a number from `at` on.
-fn cells_from(number: u128, at: u8) -> u128
-    requires { number < 2 ^ 72 }
-    ensures part { result ≡ number / 2 ^ at }
-    ensures below { result < 2 ^ 72 }
-{
-    number >> at.min(72)
-}
-
-// `high` moved up to cell `at`, above `low`, without what passes cell 71.
-fn one_above(low: u128, high: u128, at: u8) -> u128
-    requires low_bound { low < 2 ^ 72 }
-    requires high_bound { high < 2 ^ 72 }
-    ensures whole { result ≡ (low + 2 ^ at * high) % 2 ^ 72 }
-    ensures below { result < 2 ^ 72 }
-{
-    let moved = (high << at.min(72)) % 0x100_0000_0000_0000_0000;
-    (moved + low) % 0x100_0000_0000_0000_0000
 }
