@@ -14,6 +14,10 @@ pub trait Code {
 
     const CHECK: u8;
 
+    ghost DATA: { ℕ };
+
+    ghost CHECK: { ℕ };
+
     ghost code: { CodeModel };
 
     // the bytes of the name
@@ -24,10 +28,16 @@ pub trait Code {
         ensures { result.now ≡ title };
 
     fn data_width(&self) -> u8
-        ensures { result ≡ code.n };
+        ensures { result ≡ code.n }
+    {
+        Self::DATA
+    }
 
     fn check_width(&self) -> u8
-        ensures { result ≡ code.k };
+        ensures { result ≡ code.k }
+    {
+        Self::CHECK
+    }
 
     // The cells of a raw word: data below, check bits above.
     fn raw_width(&self) -> u8
@@ -54,6 +64,8 @@ pub trait Code {
     {
         put_right(data, self.locate(syndrome))
     }
+
+    ghost widths: { (DATA ≡ code.n) × (CHECK ≡ code.k) };
 
     ghost lawful: { CodeLaws code };
 }

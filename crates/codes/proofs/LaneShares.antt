@@ -1,6 +1,8 @@
 -- Tables of lane shares: entry 256 j + b is what the byte b in lane j adds to the check bits. Assumes nothing.
-use Rattle.std.proofs.Common.{◌≡◌, ℕ, zero, suc, ◌+◌, ◌*◌, ◌/◌, ◌%◌, ◌^◌, ◌<◌, ◌≤◌, Bool, true, ◌&&◌, eqb, ltb, List, [], ◌∷◌, length, get_or, drop, sym, ap, ◌∙◌, le_of_suc-le-suc, not-suc-le-zero, add-zero, add-suc, suc-add, zero-add, div-one, arith, length-drop, shr-shr}
+use Rattle.std.proofs.Common.{◌≡◌, ℕ, zero, suc, ◌+◌, ◌*◌, ◌/◌, ◌%◌, ◌^◌, ◌<◌, ◌≤◌, Bool, true, ◌&&◌, eqb, ltb, List, [], ◌∷◌, length, get_or, drop, fold, refl, sym, ap, ◌∙◌, le_of_suc-le-suc, not-suc-le-zero, add-zero, add-suc, suc-add, zero-add, div-one, arith, length-drop, shr-shr}
 use lib.Bits.{bit_xor, xor_zero_r, xor_assoc}
+use Rattle.std.specs.List.{zip}
+use Rattle.std.proofs.Math.Seq.{drop-cons}
 use Rattle.std.proofs.lemmas.Nat.{mul-add-lt, div-mul-add, mod-mul-add}
 use Rattle.std.proofs.lemmas.List.{length-take-le}
 use Rattle.std.proofs.lemmas.Bool.{eqb-true, ltb-true, and_parts}
@@ -75,3 +77,12 @@ gathered_all columns lanes m z d order e few long t =
     let sum = gathered_sum columns lanes m z d 0 order e (omega arith) long t in
     let low = div-one d in
     cc
+
+-- the shares one after the other, with the bytes from lane j on
+pub fold_gathered : (columns lanes : List ℕ) (z j : ℕ) (order : List ℕ) → j + length order ≤ length lanes →
+    fold (λ bits p. bit_xor bits (picked (lane_columns columns p.0) p.1)) z (zip order (drop j lanes)) ≡ gathered columns lanes z j order
+fold_gathered columns lanes z j [] few = refl
+fold_gathered columns lanes z j (o ∷ os) few =
+    let inside : j < length lanes = omega arith in
+    rw (drop-cons lanes j 0 inside)
+    (fold_gathered columns lanes (bit_xor z (picked (lane_columns columns o) (get_or lanes j 0))) (suc j) os (omega arith))

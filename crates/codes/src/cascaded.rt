@@ -9,7 +9,7 @@ ghost use Rattle.codes.specs.Lawful;
 ghost use Rattle.codes.specs.Slices.{lower_below};
 
 use crate::code64::Code64;
-use crate::shares::{INVERTED, share64};
+use crate::shares::{INVERTED, Shares64, add_shares};
 use code::{Code, Located};
 use word::lanes_of;
 
@@ -21,22 +21,20 @@ impl Code for Cascaded64 {
 
     const CHECK: u8 = 8;
 
+    ghost DATA = { 64 };
+
+    ghost CHECK = { 8 };
+
     ghost code = { cascaded64 };
 
     ghost title = { codes "cascaded 64-bit code" };
+
+    ghost widths = { (refl, refl) };
 
     ghost lawful = { unfold columns64 ones ones_in in Lawful.lawful cascaded64 refl (λ d. lower_below (d % 2 ^ 32)) };
 
     fn name(&self) -> &str {
         "cascaded 64-bit code"
-    }
-
-    fn data_width(&self) -> u8 {
-        Self::DATA
-    }
-
-    fn check_width(&self) -> u8 {
-        Self::CHECK
     }
 
     fn generate(&self, data: u64) -> u8 {
@@ -64,36 +62,14 @@ pub fn cascade(data: u64) -> u8
 pub fn lower_slice(low: u32) -> u8
     ensures { result ≡ lower_slice low }
 {
-    lower_shares(lanes_of(low as u64))
+    add_shares::<Shares64>(INVERTED, &[0, 1, 2, 3], lanes_of(low as u64))
 }
 
 // The check bits once those of data cells 32 to 63 are added to partial ones; nothing is inverted again.
 pub fn upper_slice(partial: u8, high: u32) -> u8
     ensures { result ≡ upper_slice partial high }
 {
-    upper_shares(partial, lanes_of(high as u64))
-}
-
-// z with the shares of the lower slice's lanes.
-fn lower_shares(lanes: [u8; 8]) -> u8
-    ensures { result ≡ gathered columns64 lanes inverted 0 lower_order }
-{
-    INVERTED
-        ^ share64(0, lanes[0])
-        ^ share64(1, lanes[1])
-        ^ share64(2, lanes[2])
-        ^ share64(3, lanes[3])
-}
-
-// Partial check bits with the shares of the upper slice's lanes.
-fn upper_shares(partial: u8, lanes: [u8; 8]) -> u8
-    ensures { result ≡ gathered columns64 lanes partial 0 upper_order }
-{
-    partial
-        ^ share64(4, lanes[0])
-        ^ share64(5, lanes[1])
-        ^ share64(6, lanes[2])
-        ^ share64(7, lanes[3])
+    add_shares::<Shares64>(partial, &[4, 5, 6, 7], lanes_of(high as u64))
 }
 
 // How many data cells each slice of the cascaded code takes; the two make the check bits, syndromes, codewords and decoded words of

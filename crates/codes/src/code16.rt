@@ -8,7 +8,7 @@ ghost use Rattle.std.specs.Int.Count.{ones, ones_in};
 ghost use Rattle.std.proofs.Math.Dec.{lit<};
 ghost use Rattle.codes.specs.Lawful;
 
-use crate::shares::share16;
+use crate::shares::{Shares16, add_shares};
 use code::{Code, Located};
 use word::lanes_of;
 
@@ -23,9 +23,15 @@ impl Code for Code16 {
 
     const CHECK: u8 = 6;
 
+    ghost DATA = { 16 };
+
+    ghost CHECK = { 6 };
+
     ghost code = { code16 };
 
     ghost title = { codes "16-bit code" };
+
+    ghost widths = { (refl, refl) };
 
     ghost lawful = { unfold columns16 ones ones_in in Lawful.lawful code16 refl (λ d. lit< tt) };
 
@@ -33,16 +39,8 @@ impl Code for Code16 {
         "16-bit code"
     }
 
-    fn data_width(&self) -> u8 {
-        Self::DATA
-    }
-
-    fn check_width(&self) -> u8 {
-        Self::CHECK
-    }
-
     fn generate(&self, data: u64) -> u8 {
-        check_bits(lanes_of(data))
+        add_shares::<Shares16>(Z16, &[0, 1], lanes_of(data))
     }
 
     fn locate(&self, syndrome: u8) -> Located {
@@ -85,11 +83,4 @@ fn look_up(syndrome: u8) -> Located
         even if even.count_ones() % 2 == 0 => Located::Two,
         _ => Located::Many,
     }
-}
-
-// z with the share of each lane added.
-fn check_bits(lanes: [u8; 8]) -> u8
-    ensures { result ≡ gathered columns16 lanes z16 0 order16 }
-{
-    Z16 ^ share16(0, lanes[0]) ^ share16(1, lanes[1])
 }

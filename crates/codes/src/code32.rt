@@ -8,7 +8,7 @@ ghost use Rattle.std.specs.Int.Count.{ones, ones_in};
 ghost use Rattle.std.proofs.Math.Dec.{lit<};
 ghost use Rattle.codes.specs.Lawful;
 
-use crate::shares::{INVERTED, share64};
+use crate::shares::{INVERTED, Shares64, add_shares};
 use code::{Code, Located};
 use word::lanes_of;
 
@@ -20,9 +20,15 @@ impl Code for Code32 {
 
     const CHECK: u8 = 7;
 
+    ghost DATA = { 32 };
+
+    ghost CHECK = { 7 };
+
     ghost code = { code32 };
 
     ghost title = { codes "32-bit code" };
+
+    ghost widths = { (refl, refl) };
 
     ghost lawful = { unfold columns32 columns64 ones ones_in in Lawful.lawful code32 refl (λ d. lit< tt) };
 
@@ -30,16 +36,8 @@ impl Code for Code32 {
         "32-bit code"
     }
 
-    fn data_width(&self) -> u8 {
-        Self::DATA
-    }
-
-    fn check_width(&self) -> u8 {
-        Self::CHECK
-    }
-
     fn generate(&self, data: u64) -> u8 {
-        check_bits(lanes_of(data))
+        add_shares::<Shares64>(INVERTED, &[4, 1, 2, 7], lanes_of(data))
     }
 
     fn locate(&self, syndrome: u8) -> Located {
@@ -99,15 +97,4 @@ fn look_up(syndrome: u8) -> Located
         even if even.count_ones() % 2 == 0 => Located::Two,
         _ => Located::Many,
     }
-}
-
-// z with the share of each lane added.
-fn check_bits(lanes: [u8; 8]) -> u8
-    ensures { result ≡ gathered columns64 lanes inverted 0 order32 }
-{
-    INVERTED
-        ^ share64(4, lanes[0])
-        ^ share64(1, lanes[1])
-        ^ share64(2, lanes[2])
-        ^ share64(7, lanes[3])
 }

@@ -1,12 +1,13 @@
 // The code of 64 data cells and 8 check cells.
 ghost use Rattle.std.specs.Prelude.{◌≡◌, codes};
+ghost use Rattle.std.proofs.Math.Path.{refl};
 ghost use Rattle.code.specs.Codes.{told};
 ghost use Rattle.codes.specs.Tables.{code64, columns64, inverted, order64, table64};
 ghost use Rattle.codes.specs.Lanes.{gathered};
 ghost use Rattle.codes.specs.Marks.{Marks64, followed};
 ghost use Rattle.codes.specs.Marked.{lawful64};
 
-use crate::shares::{INVERTED, share64};
+use crate::shares::{INVERTED, Shares64, add_shares};
 use code::{Code, Located};
 use word::{Refusal, lanes_of};
 
@@ -18,9 +19,15 @@ impl Code for Code64 {
 
     const CHECK: u8 = 8;
 
+    ghost DATA = { 64 };
+
+    ghost CHECK = { 8 };
+
     ghost code = { code64 };
 
     ghost title = { codes "64-bit code" };
+
+    ghost widths = { (refl, refl) };
 
     ghost lawful = { lawful64 };
 
@@ -28,16 +35,8 @@ impl Code for Code64 {
         "64-bit code"
     }
 
-    fn data_width(&self) -> u8 {
-        Self::DATA
-    }
-
-    fn check_width(&self) -> u8 {
-        Self::CHECK
-    }
-
     fn generate(&self, data: u64) -> u8 {
-        check_bits(lanes_of(data))
+        add_shares::<Shares64>(INVERTED, &[0, 1, 2, 3, 4, 5, 6, 7], lanes_of(data))
     }
 
     fn locate(&self, syndrome: u8) -> Located {
@@ -134,21 +133,6 @@ fn look_up(syndrome: u8) -> Located
         even if even.count_ones() % 2 == 0 => Located::Two,
         _ => Located::Many,
     }
-}
-
-// z with the share of each lane added.
-fn check_bits(lanes: [u8; 8]) -> u8
-    ensures { result ≡ gathered columns64 lanes inverted 0 order64 }
-{
-    INVERTED
-        ^ share64(0, lanes[0])
-        ^ share64(1, lanes[1])
-        ^ share64(2, lanes[2])
-        ^ share64(3, lanes[3])
-        ^ share64(4, lanes[4])
-        ^ share64(5, lanes[5])
-        ^ share64(6, lanes[6])
-        ^ share64(7, lanes[7])
 }
 
 // What each syndrome says, as one number: the cell of the raw word, or 72 for none, 73 for two and 74 for many.

@@ -1,11 +1,76 @@
 // What each lane of a data word adds to its check bits, by table.
-ghost use Rattle.std.specs.Prelude.{◌≡◌, ◌<◌};
+ghost use Rattle.std.specs.Prelude.{◌≡◌, ℕ, ◌<◌, ◌≤◌, List, length, All, fold, bit_xor};
+ghost use Rattle.std.specs.List.{zip};
 ghost use Rattle.codes.specs.Tables.{columns16, columns64};
 ghost use Rattle.code.specs.Codes.{picked};
-ghost use Rattle.codes.specs.Lanes.{lane_columns, Shares};
+ghost use Rattle.codes.specs.Lanes.{lane_columns, Shares, gathered};
 
 // z of the codes of 32 and 64 data cells: check bits 2 and 3 are kept inverted.
 pub(crate) const INVERTED: u8 = 0x0c;
+
+// A table of shares: entry 256 j + b is the xor of the columns of lane j at the set cells of the byte b.
+pub(crate) trait Shared {
+    ghost columns: { List ℕ };
+
+    ghost count: { ℕ };
+
+    fn table() -> &'static [u8]
+        ensures { Shares columns count result.now };
+}
+
+// z with the shares of lanes added: the first lane has the columns of the lane that the order names first, and so on.
+pub(crate) fn add_shares<T: Shared>(z: u8, order: &[u8], lanes: [u8; 8]) -> u8
+    requires few { length order.now ≤ 8 }
+    requires known { All (λ o. o < T.count) order.now }
+    ensures { result ≡ gathered T.columns lanes z 0 order.now }
+{
+    fold_shares::<T>(z, order, lanes)
+}
+
+// The shares one after the other.
+fn fold_shares<T: Shared>(z: u8, order: &[u8], lanes: [u8; 8]) -> u8
+    requires { All (λ o. o < T.count) order.now }
+    ensures { result ≡ fold (λ bits p. bit_xor bits (picked (lane_columns T.columns p.0) p.1)) z (zip order.now lanes) }
+{
+    order
+        .iter()
+        .zip(lanes.iter())
+        .fold(z, |bits, (lane, byte)| bits ^ share::<T>(*lane, *byte))
+}
+
+// The xor of the columns of one lane, at the set cells of its byte.
+fn share<T: Shared>(lane: u8, byte: u8) -> u8
+    requires { lane < T.count }
+    ensures { result ≡ picked (lane_columns T.columns lane) byte }
+{
+    T::table()[lane as usize * 256 + byte as usize]
+}
+
+// The shares of the 64-bit code, whose columns the 32-bit code has too.
+pub(crate) struct Shares64;
+
+impl Shared for Shares64 {
+    ghost columns = { columns64 };
+
+    ghost count = { 8 };
+
+    fn table() -> &'static [u8] {
+        &SHARES64
+    }
+}
+
+// The shares of the 16-bit code.
+pub(crate) struct Shares16;
+
+impl Shared for Shares16 {
+    ghost columns = { columns16 };
+
+    ghost count = { 2 };
+
+    fn table() -> &'static [u8] {
+        &SHARES16
+    }
+}
 
 static SHARES64: [u8; 2048] = *b"\
     \x00\xce\xcb\x05\xd3\x1d\x18\xd6\xd5\x1b\x1e\xd0\x06\xc8\xcd\x03\
@@ -137,21 +202,6 @@ static SHARES64: [u8; 2048] = *b"\
     \x68\x0a\x0c\x6e\x0f\x6d\x6b\x09\x00\x62\x64\x06\x67\x05\x03\x61\
     \x03\x61\x67\x05\x64\x06\x00\x62\x6b\x09\x0f\x6d\x0c\x6e\x68\x0a";
 
-// The shares of the 64-bit code's lanes: entry 256 j + b is that of the byte b in lane j.
-fn shares64() -> &'static [u8; 2048]
-    ensures { Shares columns64 8 result.now }
-{
-    &SHARES64
-}
-
-// The xor of the columns of one lane of the 64-bit code, at the set cells of its byte.
-pub(crate) fn share64(lane: u8, byte: u8) -> u8
-    requires { lane < 8 }
-    ensures { result ≡ picked (lane_columns columns64 lane) byte }
-{
-    shares64()[lane as usize * 256 + byte as usize]
-}
-
 static SHARES16: [u8; 512] = *b"\
     \x00\x38\x19\x21\x1a\x22\x03\x3b\x0b\x33\x12\x2a\x11\x29\x08\x30\
     \x1c\x24\x05\x3d\x06\x3e\x1f\x27\x17\x2f\x0e\x36\x0d\x35\x14\x2c\
@@ -185,18 +235,3 @@ static SHARES16: [u8; 512] = *b"\
     \x31\x1d\x14\x38\x17\x3b\x32\x1e\x12\x3e\x37\x1b\x34\x18\x11\x3d\
     \x34\x18\x11\x3d\x12\x3e\x37\x1b\x17\x3b\x32\x1e\x31\x1d\x14\x38\
     \x00\x2c\x25\x09\x26\x0a\x03\x2f\x23\x0f\x06\x2a\x05\x29\x20\x0c";
-
-// The shares of the 16-bit code's lanes.
-fn shares16() -> &'static [u8; 512]
-    ensures { Shares columns16 2 result.now }
-{
-    &SHARES16
-}
-
-// The xor of the columns of one lane of the 16-bit code, at the set cells of its byte.
-pub(crate) fn share16(lane: u8, byte: u8) -> u8
-    requires { lane < 2 }
-    ensures { result ≡ picked (lane_columns columns16 lane) byte }
-{
-    shares16()[lane as usize * 256 + byte as usize]
-}

@@ -7,4 +7,4 @@ use Rattle.codes.proofs.cascaded.upper_slice.Goals as goal
 pub returns : goal.returns
 unfolding columns64
 returns c =
-    c.upper_shares.ensures ∙ gathered_all columns64 c.lanes_of.result 8 c.args.partial c.args.high upper_order c.lanes_of.ensures (lit≤ tt) (lit≤ tt) refl
+    c.add_shares.ensures ∙ gathered_all columns64 c.lanes_of.result 8 c.args.partial c.args.high upper_order c.lanes_of.ensures (lit≤ tt) (lit≤ tt) refl

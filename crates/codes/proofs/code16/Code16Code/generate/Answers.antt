@@ -6,4 +6,4 @@ use Rattle.codes.proofs.code16.Code16Code.generate.Goals as goal
 pub returns : goal.returns
 unfolding columns16
 returns c =
-    c.check_bits.ensures ∙ gathered_all columns16 c.lanes_of.result 2 z16 c.args.«data» order16 c.lanes_of.ensures (lit≤ tt) (lit≤ tt) refl
+    c.add_shares.ensures ∙ gathered_all columns16 c.lanes_of.result 2 z16 c.args.«data» order16 c.lanes_of.ensures (lit≤ tt) (lit≤ tt) refl

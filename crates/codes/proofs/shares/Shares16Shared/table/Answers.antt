@@ -2,7 +2,7 @@ use Rattle.std.proofs.Common.{refl}
 use Rattle.code.specs.Codes.{picked}
 use Rattle.codes.specs.Tables.{columns16}
 use Rattle.codes.proofs.LaneShares.{shares_right}
-use Rattle.codes.proofs.shares.shares16.Goals as goal
+use Rattle.codes.proofs.shares.Shares16Shared.table.Goals as goal
 
 pub returns : goal.returns
 unfolding picked columns16
