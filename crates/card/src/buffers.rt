@@ -45,16 +45,8 @@ pub(crate) fn load(bytes: &[u8], at: usize) -> Word
     requires { at + 9 ≤ length bytes.now }
     ensures { result ≡ of_value (loaded bytes.now at) }
 {
-    let low = [
-        bytes[at],
-        bytes[at + 1],
-        bytes[at + 2],
-        bytes[at + 3],
-        bytes[at + 4],
-        bytes[at + 5],
-        bytes[at + 6],
-        bytes[at + 7],
-    ];
+    let mut low = [0u8; 8];
+    low.copy_from_slice(&bytes[at..at + 8]);
     Word {
         low: join_lanes(low),
         top: bytes[at + 8],

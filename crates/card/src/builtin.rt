@@ -4,7 +4,8 @@ ghost use Rattle.card.specs.Builtin.{builtin_card, builtin_of, blank};
 ghost use Rattle.card.specs.BuiltinLaws.{builtin_laws};
 
 use crate::cards::Card;
-use word::{Fault, Refusal, Word};
+use crate::widths::{is_proper, shown_width};
+use word::{Fault, Word, check_place, check_width};
 
 #[derive(Drop)]
 pub struct BuiltinCard {
@@ -33,36 +34,25 @@ impl Card for BuiltinCard {
     ghost laws = { builtin_laws };
 
     fn width(&self) -> u8 {
-        if self.width >= 1 && self.width <= 72 {
-            self.width
-        } else {
-            72
-        }
+        shown_width(self.width)
     }
 
     fn count(&self) -> u32 {
-        if self.width >= 1 && self.width <= 72 {
-            let words: &[Word] = &self.words;
-            words.len() as u32
+        if is_proper(self.width) {
+            self.words.len() as u32
         } else {
             0
         }
     }
 
     fn read(&mut self, place: u16) -> Result<Word, Fault> {
-        if place as u32 >= self.count() {
-            return Err(Fault::arise(Refusal::Place, place));
-        }
+        check_place(place, self.count())?;
         Ok(self.words[place as usize].split(self.width).0)
     }
 
     fn write(&mut self, place: u16, word: Word) -> Result<(), Fault> {
-        if place as u32 >= self.count() {
-            return Err(Fault::arise(Refusal::Place, place));
-        }
-        if !word.fits(self.width) {
-            return Err(Fault::arise(Refusal::Wide, place));
-        }
+        check_place(place, self.count())?;
+        check_width(word, self.width, place)?;
         self.words[place as usize] = word;
         Ok(())
     }

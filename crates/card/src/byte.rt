@@ -7,7 +7,8 @@ ghost use Rattle.card.specs.ByteLaws.{byte_laws};
 
 use crate::buffers::{Buffer, WORD_BYTES, load};
 use crate::cards::Card;
-use word::{Fault, Refusal, Word};
+use crate::widths::{is_proper, shown_width};
+use word::{Fault, Word, check_place, check_width};
 
 #[derive(Drop)]
 pub struct ByteCard<B> {
@@ -33,15 +34,11 @@ impl<B: Buffer> Card for ByteCard<B> {
     ghost laws = { byte_laws };
 
     fn width(&self) -> u8 {
-        if self.width >= 1 && self.width <= 72 {
-            self.width
-        } else {
-            72
-        }
+        shown_width(self.width)
     }
 
     fn count(&self) -> u32 {
-        if self.width >= 1 && self.width <= 72 {
+        if is_proper(self.width) {
             (self.bytes.bytes().len() / WORD_BYTES).min(0x1_0000) as u32
         } else {
             0
@@ -49,20 +46,14 @@ impl<B: Buffer> Card for ByteCard<B> {
     }
 
     fn read(&mut self, place: u16) -> Result<Word, Fault> {
-        if place as u32 >= self.count() {
-            return Err(Fault::arise(Refusal::Place, place));
-        }
+        check_place(place, self.count())?;
         let word = load(self.bytes.bytes(), place as usize * WORD_BYTES);
         Ok(word.split(self.width).0)
     }
 
     fn write(&mut self, place: u16, word: Word) -> Result<(), Fault> {
-        if place as u32 >= self.count() {
-            return Err(Fault::arise(Refusal::Place, place));
-        }
-        if !word.fits(self.width) {
-            return Err(Fault::arise(Refusal::Wide, place));
-        }
+        check_place(place, self.count())?;
+        check_width(word, self.width, place)?;
         self.bytes.put(place as usize * WORD_BYTES, word);
         Ok(())
     }

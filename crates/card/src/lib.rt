@@ -5,6 +5,7 @@ mod buffers;
 mod builtin;
 mod byte;
 mod cards;
+mod widths;
 
 pub use buffers::Buffer;
 pub use builtin::BuiltinCard;
