@@ -1,14 +1,14 @@
 -- Two lawful cards side by side are a lawful card. Assumes nothing.
-use Rattle.std.specs.Prelude.{◌≡◌, ℕ, ◌+◌, ◌*◌, ◌/◌, ◌%◌, ◌^◌, ◌<◌, ◌≤◌, min, Ok, Err, Result, ◌≢◌, nat_le, refl}
+use Rattle.std.specs.Prelude.{◌≡◌, ℕ, ◌+◌, ◌*◌, ◌/◌, ◌%◌, ◌^◌, ◌<◌, ◌≤◌, min, Ok, Result, nat_le, refl}
 use Rattle.std.proofs.Common.{sym, ap, ◌∙◌, mod-eq_of_lt, lt_of_lt_of_le, arith, pow_mono}
 use Rattle.std.proofs.lemmas.Bool.{cond_both, leb-true}
 use Rattle.word.specs.Words.{value, of_value}
 use Rattle.word.specs.declared.words.Word.{Word}
 use Rattle.word.specs.declared.faults.Fault.{Fault}
 use Rattle.word.proofs.Values.{value_of_value}
-use Rattle.card.specs.Cards.{CardModel, CardLaws, Entry, holds, faulty, Within, shown, read_answer, read_state, write_answer}
+use Rattle.card.specs.Cards.{CardModel, CardLaws, Entry, holds, faulty, Within, shown, read_answer, read_state, write_answer, write_state}
 use Rattle.layers.specs.CutFacts.{low_part, high_part, parts_whole, whole_below}
-use Rattle.card.proofs.CardFacts.{read_entered, read_leads, write_not_refused}
+use Rattle.card.proofs.CardFacts.{read_entered, read_leads, write_granted, write_leads}
 use Rattle.card.specs.WidthFacts.{place_from}
 use Rattle.layers.specs.Pairs.{Both, joined, unless_faulty, pair_card}
 
@@ -166,10 +166,19 @@ module _ (l h : CardModel) (lower : CardLaws l) (upper : CardLaws h) where
       let led : t ≡ (pair_card l h).after_read s p = λ i. record { low = low_led i; high = high_led i } in
       (whole ∙ sym (read_entered (pair_card l h) s p k), led ∙ sym (read_leads (pair_card l h) s p k))
 
-  -- a write that the pair lets pass is not refused by its high card, which gets the high part
-  pub high_grants : (s : State) (p v a : ℕ) (parts : Word × Word) (f : Fault) → p < (pair_card l h).count s → v < 2 ^ (pair_card l h).width s →
-      a ≡ l.width s.low → parts ≡ (of_value (v % 2 ^ a), of_value (v / 2 ^ a)) → Err f ≢ write_answer h s.high p (value parts.1)
-  high_grants s p v a parts f k below w cut e =
-      let high : value parts.1 ≡ v / 2 ^ l.width s.low =
-      ap (λ r. value r.1) cut ∙ value_of_value (v / 2 ^ a) ∙ ap (λ n. v / 2 ^ n) w in
-      write_not_refused h s.high p (placed s p k).in_high (v / 2 ^ l.width s.low) (high_fits s p v k below) f (rw high at e)
+  -- a write of both parts to the two cards is the pair's write of a word that fits
+  pub both_written : (s t : State) (p v a : ℕ) (parts : Word × Word) → p < (pair_card l h).count s → v < 2 ^ (pair_card l h).width s →
+      a ≡ l.width s.low → parts ≡ (of_value (v % 2 ^ a), of_value (v / 2 ^ a)) →
+      t.low ≡ write_state l s.low p (value parts.0) → t.high ≡ write_state h s.high p (value parts.1) →
+      (write_answer h s.high p (value parts.1) ≡ write_answer (pair_card l h) s p v) × (t ≡ write_state (pair_card l h) s p v)
+  both_written s t p v a parts k below w cut low_after high_after =
+      let at = placed s p k in
+      let low : value parts.0 ≡ v % 2 ^ l.width s.low = ap (λ r. value r.0) cut ∙ value_of_value (v % 2 ^ a) ∙ ap (λ n. v % 2 ^ n) w in
+      let high : value parts.1 ≡ v / 2 ^ l.width s.low = ap (λ r. value r.1) cut ∙ value_of_value (v / 2 ^ a) ∙ ap (λ n. v / 2 ^ n) w in
+      let fits = high_fits s p v k below in
+      let low_led = low_after ∙ ap (write_state l s.low p) low ∙ write_leads l s.low p at.in_low _ (low_fits s v) in
+      let high_led = high_after ∙ ap (write_state h s.high p) high ∙ write_leads h s.high p at.in_high _ fits in
+      let led : t ≡ (pair_card l h).after_write s p v = λ i. record { low = low_led i; high = high_led i } in (
+        ap (write_answer h s.high p) high ∙ write_granted h s.high p at.in_high _ fits ∙ sym (write_granted (pair_card l h) s p k v below),
+        led ∙ sym (write_leads (pair_card l h) s p k v below),
+      )

@@ -1,8 +1,9 @@
 -- What is known of parity bits, for both senses and any number of lanes. Assumes nothing.
-use Rattle.std.specs.Prelude.{◌≡◌, ℕ, zero, suc, ◌+◌, ◌*◌, ◌/◌, ◌%◌, ◌^◌, ◌<◌, ◌≤◌, Bool, true, false, List, count_ones, slice_index, refl}
+use Rattle.std.specs.Prelude.{◌≡◌, ℕ, zero, suc, ◌+◌, ◌*◌, ◌/◌, ◌%◌, ◌^◌, ◌<◌, ◌≤◌, true, false, List, count_ones, slice_index, refl}
+use Rattle.std.proofs.Math.Nat.{mod-one}
 use Rattle.std.proofs.Common.{sym, ap, ◌∙◌, ⊎_elim, mul_comm, mod-eq_of_lt, pow-suc, lt_of_lt_of_le, arith, pow_mono}
-use Rattle.std.proofs.lemmas.Nat.{mod_low, shr_high, shl_whole, mul-le}
-use Rattle.std.proofs.lemmas.Bool.{eq-eqb, eqb-false, cond_both, and_from, and_left, and_right, cases_lt}
+use Rattle.std.proofs.lemmas.Nat.{mod-pow-add, mod_low, shr_high, shl_whole, mul-le}
+use Rattle.std.proofs.lemmas.Bool.{eq-eqb, ne_eqb, eqb-true, eqb-false, and_parts, false_from_ne_true, cond-true, cond_both, and_from, cases_lt}
 use Rattle.word.specs.Words.{value, of_value}
 use Rattle.word.specs.Lanes.{lane, lane_list}
 use Rattle.word.specs.declared.words.Word.{Word}
@@ -46,6 +47,11 @@ other_right : (s : Sense) (x : ℕ) → lane_right s x 0 ≡ false → lane_righ
 other_right Even x e = let ne = eqb-false _ 0 e in eq-eqb ((count_ones x + 1) % 2) 0 (omega arith)
 other_right Odd x e = let ne = eqb-false _ 1 e in eq-eqb ((count_ones x + 1) % 2) 1 (omega arith)
 
+-- and one that is right with no bit is not with a bit
+one_wrong : (s : Sense) (x : ℕ) → lane_right s x 0 ≡ true → lane_right s x 1 ≡ false
+one_wrong Even x e = let is = eqb-true _ 0 e in ne_eqb ((count_ones x + 1) % 2) 0 (λ k. omega arith)
+one_wrong Odd x e = let is = eqb-true _ 1 e in ne_eqb ((count_ones x + 1) % 2) 1 (λ k. omega arith)
+
 -- so a lane is right with its own
 own_right : (s : Sense) (x : ℕ) → lane_right s x (parity_bit s x) ≡ true
 own_right s x = cond_both (lane_right s x 0) 0 1 (λ b. lane_right s x b ≡ true) (λ e. e) (other_right s x)
@@ -72,11 +78,26 @@ module _ (s : Sense) where
     right_from zero h = refl
     right_from (suc m) h = and_from _ _ (right_from m (λ j k. h j (omega arith))) (h m (omega arith))
 
-    pub wrong_from : (m j : ℕ) → j < m → lane_right s (f j) (p / 2 ^ j % 2) ≡ false → lanes_right s m f p ≡ false
-    wrong_from zero j h e = absurd (omega arith)
-    wrong_from (suc m) j h e =
-        ⊎_elim (λ k. and_left _ _ (wrong_from m j k e))
-        (λ k. let i : j ≡ m = omega arith in and_right (lanes_right s m f p) _ (rw i at e)) (cases_lt j m)
+  -- the bit with which a lane is right
+  right_bit : (x b : ℕ) → b < 2 → lane_right s x b ≡ true → b ≡ parity_bit s x
+  right_bit x b h t =
+      ⊎_elim (λ k. let e : b ≡ 0 = omega arith in e ∙ sym (cond-true (lane_right s x 0) 0 1 (rw e at t)))
+      (λ k.
+      let e : b ≡ 1 = omega arith in
+      e ∙ cond_both (lane_right s x 0) 0 1 (λ c. 1 ≡ c) (λ o. absurd (let w = one_wrong s x o in let u = rw e at t in cc)) (λ _. refl))
+      (cases_lt b 1)
+
+  -- the bits with which all lanes are
+  right_bits : (f : ℕ → ℕ) (p m : ℕ) → lanes_right s m f p ≡ true → p % 2 ^ m ≡ parity_bits s m f
+  right_bits f p zero t = mod-one p
+  right_bits f p (suc m) t =
+      let parts = and_parts (lanes_right s m f p) (lane_right s (f m) (p / 2 ^ m % 2)) t in
+      let below = right_bits f p m parts.0 in
+      let here = right_bit (f m) (p / 2 ^ m % 2) (omega arith) parts.1 in
+      let cut : p % 2 ^ (1 + m) ≡ p / 2 ^ m % 2 ^ 1 * 2 ^ m + p % 2 ^ m = mod-pow-add p 1 m in
+      let next : suc m ≡ 1 + m = omega arith in
+      let turned : p / 2 ^ m % 2 * 2 ^ m ≡ 2 ^ m * parity_bit s (f m) = mul_comm (p / 2 ^ m % 2) (2 ^ m) ∙ ap (λ b. 2 ^ m * b) here in
+      ap (λ n. p % 2 ^ n) next ∙ cut ∙ omega arith
 
   -- so are those of all lanes
   pub parities_right : (m : ℕ) (f : ℕ → ℕ) → lanes_right s m f (parity_bits s m f) ≡ true
@@ -124,12 +145,22 @@ module _ (s : Sense) (m : ℕ) (k : m ≤ 8) where
   bits_byte v h = lt_of_lt_of_le (high_part (8 * m) m v (rw (nine m) h)) (pow_mono k)
 
   -- what is tested of the two parts of a raw word is what the raw word says
-  pub tested : (v : ℕ) (parts : Word × Word) (lanes : List ℕ) (b : Bool) → v < 2 ^ (9 * m) →
-      parts ≡ (of_value (v % 2 ^ (8 * m)), of_value (v / 2 ^ (8 * m))) → lanes ≡ lane_list parts.0.low →
-      b ≡ lanes_right s m (λ j. slice_index lanes j) parts.1.low → b ≡ lanes_right s m (λ j. lane j (v % 2 ^ (8 * m))) (v / 2 ^ (8 * m))
-  tested v parts lanes b h cut e f =
-      let bits : parts.1.low ≡ v / 2 ^ (8 * m) =
-      ap (λ r. r.1.low) cut ∙ mod-eq_of_lt (lt_of_lt_of_le (bits_byte v h) (omega arith)) in
-      f ∙ ap (lanes_right s m (λ j. slice_index lanes j)) bits ∙
-      lanes_right_same s m (λ j. slice_index lanes j) (λ j. lane j (v % 2 ^ (8 * m))) (v / 2 ^ (8 * m))
-      (λ j i. ap (λ x. slice_index x j) (e ∙ ap (λ r. lane_list r.0.low) cut) ∙ handed_out (v % 2 ^ (8 * m)) j (omega arith))
+  module _ (v : ℕ) (parts : Word × Word) (lanes : List ℕ) (bits : ℕ) (h : v < 2 ^ (9 * m))
+      (cut : parts ≡ (of_value (v % 2 ^ (8 * m)), of_value (v / 2 ^ (8 * m)))) (e : lanes ≡ lane_list parts.0.low)
+      (f : bits ≡ parity_bits s m (λ j. slice_index lanes j)) where
+    high : parts.1.low ≡ v / 2 ^ (8 * m)
+    high = ap (λ r. r.1.low) cut ∙ mod-eq_of_lt (lt_of_lt_of_le (bits_byte v h) (omega arith))
+
+    own : bits ≡ parity_bits s m (λ j. lane j (v % 2 ^ (8 * m)))
+    own =
+        f ∙ parity_bits_same s m (λ j. slice_index lanes j) (λ j. lane j (v % 2 ^ (8 * m)))
+        (λ j i. ap (λ x. slice_index x j) (e ∙ ap (λ r. lane_list r.0.low) cut) ∙ handed_out (v % 2 ^ (8 * m)) j (omega arith))
+
+    pub tested_right : parts.1.low ≡ bits → lanes_right s m (λ j. lane j (v % 2 ^ (8 * m))) (v / 2 ^ (8 * m)) ≡ true
+    tested_right t = rw (sym high ∙ t ∙ own) (parities_right s m (λ j. lane j (v % 2 ^ (8 * m))))
+
+    pub tested_wrong : (parts.1.low ≡ bits → ⊥) → lanes_right s m (λ j. lane j (v % 2 ^ (8 * m))) (v / 2 ^ (8 * m)) ≡ false
+    tested_wrong ne =
+        false_from_ne_true _ (λ t.
+        ne (high ∙ sym (mod-eq_of_lt (high_part (8 * m) m v (rw (nine m) h))) ∙
+        right_bits s (λ j. lane j (v % 2 ^ (8 * m))) (v / 2 ^ (8 * m)) m t ∙ sym own))

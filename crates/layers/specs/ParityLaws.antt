@@ -1,16 +1,15 @@
 -- A parity layer over a lawful card is a lawful card. Assumes nothing.
-use Rattle.std.specs.Prelude.{◌≡◌, ℕ, ◌*◌, ◌/◌, ◌%◌, ◌^◌, ◌<◌, ◌≤◌, Ok, Err, ◌≢◌, refl}
+use Rattle.std.specs.Prelude.{◌≡◌, ℕ, ◌*◌, ◌/◌, ◌%◌, ◌^◌, ◌<◌, ◌≤◌, Ok, refl}
 use Rattle.std.proofs.Common.{sym, ap, subst, ◌∙◌, arith}
 use Rattle.std.proofs.lemmas.Bool.{cond_both, cond-true, eqb-true}
 use Rattle.word.specs.Lanes.{lane}
 use Rattle.word.specs.Words.{value, of_value}
 use Rattle.word.specs.declared.words.Word.{Word}
-use Rattle.word.specs.declared.faults.Fault.{Fault}
 use Rattle.word.proofs.Values.{value_of_value}
-use Rattle.card.specs.Cards.{CardModel, CardLaws, Entry, holds, faulty, Within, read_answer, write_answer}
+use Rattle.card.specs.Cards.{CardModel, CardLaws, Entry, holds, faulty, Within, read_answer, write_answer, write_state}
 use Rattle.layers.specs.Parities.{Sensed, parity_card, parity_bits, lanes_right, with_parity, checked, by_nines, lanes_in}
 use Rattle.layers.specs.declared.parity.Sense.{Sense}
-use Rattle.card.proofs.CardFacts.{read_within, write_not_refused}
+use Rattle.card.proofs.CardFacts.{read_within, write_granted, write_leads}
 use Rattle.layers.specs.CutFacts.{low_part, whole_low, whole_high}
 use Rattle.layers.specs.ParityFacts.{parities_right, raw_below}
 use Rattle.card.specs.WidthFacts.{place_from}
@@ -128,19 +127,22 @@ module _ (b : CardModel) (lower : CardLaws b) where
   }
 
   -- a raw word that the card gave is one of nine cells for each lane
-  pub raw_given : (s : State) (p w : ℕ) (raw : Word) → p < (parity_card b).count s → w ≡ b.width s.card → Ok raw ≡ read_answer b s.card p →
-      (lanes_in w ≤ 8) × (value raw < 2 ^ (9 * lanes_in w))
-  raw_given s p w raw k e given =
+  pub raw_given : (s : State) (p : ℕ) (raw : Word) → p < (parity_card b).count s → Ok raw ≡ read_answer b s.card p → value raw < 2 ^ (9 * lanes s)
+  raw_given s p raw k given =
       let at = placed s p k in
-      let most = at.most in
-      let nines = at.nines in
-      let whole : 9 * lanes_in w ≡ b.width s.card = omega arith in
-      (omega arith, rw whole (read_within b s.card p at.below lower raw given))
+      rw (← at.nines) (read_within b s.card p at.below lower raw given)
 
-  -- a write that the layer lets pass is not refused by the card
-  pub card_grants : (s : State) (p v w : ℕ) (raw : Word) (f : Fault) → p < (parity_card b).count s → v < 2 ^ (parity_card b).width s →
-      w ≡ b.width s.card → raw ≡ of_value (with_parity s.sense (lanes_in w) v) → Err f ≢ write_answer b s.card p (value raw)
-  card_grants s p v w raw f k fit e made refused =
-      let laid : value raw ≡ with_parity s.sense (lanes s) v =
-      ap value made ∙ value_of_value _ ∙ ap (λ n. with_parity s.sense (lanes_in n) v) e in
-      write_not_refused b s.card p (placed s p k).below (with_parity s.sense (lanes s) v) (raw_fits s p v k fit) f (rw laid at refused)
+  -- a write of the raw word to the card is the layer's write of data that fits
+  pub raw_written : (s : State) (p v : ℕ) (raw : Word) → p < (parity_card b).count s → v < 2 ^ (parity_card b).width s →
+      raw ≡ of_value (with_parity s.sense (lanes s) v) →
+      (write_answer b s.card p (value raw) ≡ write_answer (parity_card b) s p v) ×
+      (◌≡◌ {A = State} (record { sense = s.sense; card = write_state b s.card p (value raw) }) (write_state (parity_card b) s p v))
+  raw_written s p v raw k fit made =
+      let below = (placed s p k).below in
+      let fits = raw_fits s p v k fit in
+      let laid : value raw ≡ with_parity s.sense (lanes s) v = ap value made ∙ value_of_value _ in
+      let card : write_state b s.card p (value raw) ≡ b.after_write s.card p (with_parity s.sense (lanes s) v) =
+      ap (write_state b s.card p) laid ∙ write_leads b s.card p below _ fits in (
+        ap (write_answer b s.card p) laid ∙ write_granted b s.card p below _ fits ∙ sym (write_granted (parity_card b) s p k v fit),
+        (λ i. record { sense = s.sense; card = card i }) ∙ sym (write_leads (parity_card b) s p k v fit),
+      )

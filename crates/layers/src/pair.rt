@@ -3,7 +3,7 @@ ghost use Rattle.layers.specs.Pairs.{pair_card};
 ghost use Rattle.layers.specs.PairLaws.{pair_laws};
 
 use card::Card;
-use word::{Fault, Refusal, Side, Word};
+use word::{Fault, Side, Word, check_place, check_width};
 
 // Where the widths of the two make more than 72 it has width 72 and no places.
 #[derive(Drop)]
@@ -34,33 +34,25 @@ impl<L: Card, H: Card> Card for PairCard<L, H> {
     }
 
     fn read(&mut self, place: u16) -> Result<Word, Fault> {
-        if place as u32 >= self.count() {
-            return Err(Fault::arise(Refusal::Place, place));
-        }
+        check_place(place, self.count())?;
         let at = self.low.width();
-        match self.low.read(place) {
-            Ok(low) => match self.high.read(place) {
-                Ok(high) => Ok(Word::join(low, high, at)),
-                Err(fault) => Err(fault.pass_up_from(Side::High)),
-            },
-            Err(fault) => Err(fault.pass_up_from(Side::Low)),
-        }
+        let low = self
+            .low
+            .read(place)
+            .map_err(|fault| fault.pass_up_from(Side::Low))?;
+        let high = self
+            .high
+            .read(place)
+            .map_err(|fault| fault.pass_up_from(Side::High))?;
+        Ok(Word::join(low, high, at))
     }
 
     fn write(&mut self, place: u16, word: Word) -> Result<(), Fault> {
-        if place as u32 >= self.count() {
-            return Err(Fault::arise(Refusal::Place, place));
-        }
-        if !word.fits(self.width()) {
-            return Err(Fault::arise(Refusal::Wide, place));
-        }
+        check_place(place, self.count())?;
+        check_width(word, self.width(), place)?;
         let (low, high) = word.split(self.low.width());
-        if let Err(fault) = self.low.write(place, low) {
-            return Err(fault.pass_up_from(Side::Low));
-        }
-        if let Err(fault) = self.high.write(place, high) {
-            return Err(fault.pass_up_from(Side::High));
-        }
-        Ok(())
+        // Both cards have this place, and the width of their part, so they grant the writes.
+        self.low.write(place, low)?;
+        self.high.write(place, high)
     }
 }

@@ -1,5 +1,5 @@
 -- What becomes of a fault over many layers. Assumes nothing.
-use Rattle.std.proofs.Common.{◌≡◌, fold, ℕ, ◌+◌, ◌*◌, ◌/◌, ◌%◌, ◌^◌, ◌<◌, ◌≤◌, min, List, [], ◌∷◌, length, Some, None, Option, sym, refl, ap, ◌∙◌, mul_assoc, mul_comm, mul-add, mul_left_comm, arith, pow-add}
+use Rattle.std.proofs.Common.{◌≡◌, fold, ℕ, ◌+◌, ◌*◌, ◌/◌, ◌%◌, ◌^◌, ◌<◌, ◌≤◌, min, List, [], ◌∷◌, length, Some, None, Option, Ok, Err, Result, MatchResult, is_ok, sym, refl, ap, ◌∙◌, mul_assoc, mul_comm, mul-add, mul_left_comm, arith, pow-add}
 use native.Mathlib.Nat.{div-add-mod, add-mul-mod_self_left}
 use Rattle.word.specs.Faults.{passed, sided, side_number, over_layer, over_layers, pairs_in, sides_number}
 use Rattle.word.specs.declared.faults.Fault.{Fault}
@@ -40,3 +40,9 @@ way_over (Some s ∷ ls) f h =
     let power : 2 ^ (1 + pairs_in ls) ≡ 2 * 2 ^ pairs_in ls = pow-add 2 1 (pairs_in ls) in
     rw power (e ∙ next)
 way_over (None ∷ ls) f h = way_over ls (passed f) h
+
+-- what came up as granted was granted below
+pub granted_below : {T E D : Type 0} (below : Result T E) (above : Result T D) (P : E → Type 0) (x : T) →
+    MatchResult below (λ y. above ≡ Ok y) P → is_ok above ≡ is_ok below → above ≡ Ok x → below ≡ Ok x
+granted_below (Ok y) above P x cases variant up = cc
+granted_below (Err e) above P x cases variant up = cc

@@ -1,6 +1,0 @@
-use Rattle.std.proofs.Common.{◌≡◌, get_or}
-use Rattle.layers.specs.Parities.{parity_bits}
-use Rattle.layers.proofs.parity.parities.Given as goal
-
-abbrev pub invariant-loop-j : goal.invariant-loop-j
-invariant-loop-j l = l.bits ≡ parity_bits l.sense l.j (λ j. get_or l.lanes j 0)
