@@ -1,3 +1,4 @@
+pub mod Shapes
 pub mod Watching
 pub mod Owing
 pub mod Watchers

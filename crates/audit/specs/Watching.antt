@@ -1,5 +1,5 @@
 -- What a watch of a place has to tell of the calls made so far. Assumes nothing.
-use Rattle.std.specs.Prelude.{◌≡◌, ℕ, ◌<◌, Bool, false, cond, not, List, slice_index_or}
+use Rattle.std.specs.Prelude.{◌≡◌, ℕ, ◌<◌, Bool, false, if◌then◌else◌, not, List, slice_index_or}
 use Rattle.word.specs.Words.{value}
 use Rattle.unit.specs.declared.calls.Call.{Call}
 use Rattle.runs.specs.Histories.{History, stores, hits, upset, is_in_hand, laid_by, last_laid}
@@ -19,5 +19,5 @@ pub record Sees (cells lanes : ℕ) (h : History) (w : Watch) : Type 0 where
 pub record Told (cells lanes : ℕ) (k : Call) (w v : Watch) : Type 0 where
   pub same_place : v.place ≡ w.place
   pub same_hand : v.in_hand ≡ w.in_hand
-  pub marks : (x : ℕ) → x < cells → marked v.upset x ≡ cond (stores w.place k) false (cond (hits w.place x k) (not (marked w.upset x)) (marked w.upset x))
-  pub word : value v.laid ≡ cond (stores w.place k) (laid_by lanes (value w.laid) k) (value w.laid)
+  pub marks : (x : ℕ) → x < cells → marked v.upset x ≡ (if stores w.place k then false else if hits w.place x k then not (marked w.upset x) else marked w.upset x)
+  pub word : value v.laid ≡ (if stores w.place k then laid_by lanes (value w.laid) k else value w.laid)

@@ -1,9 +1,9 @@
 // An audit of a recorded run.
 ghost use Rattle.std.specs.Prelude.{◌≡◌, ℕ, ◌<◌, min, false, [], length, take, Some};
 ghost use Rattle.runs.specs.Histories.{History, past};
-ghost use Rattle.runs.specs.Promises.{Owed, AllOwed};
+ghost use Rattle.runs.specs.Promises.{AllOwed};
 ghost use Rattle.audit.specs.Owing.{named};
-ghost use Rattle.audit.specs.Watchers.{SeesAll, WatchedOwed};
+ghost use Rattle.audit.specs.Watchers.{Watches, OwedAt, WatchedOwed};
 
 use crate::shapes::Shape;
 use crate::watchers::Watcher;
@@ -16,31 +16,32 @@ pub struct Findings {
     pub differing: usize,
 }
 
-// Whether an answer is not the one that the calls before make owed. One that the promise allows never is, and at a watched place one that it does not allow always is.
-fn does_differ(watcher: Watcher, shape: Shape, call: Call, answer: Answer) -> bool
-    ensures fair { (h : History) → SeesAll shape.width shape.checks shape.places h watcher → Owed shape.width shape.checks shape.places h call answer → result ≡ false }
-    ensures found { (h : History) → SeesAll shape.width shape.checks shape.places h watcher → (p : ℕ) → named call ≡ Some p → p < 4 → result ≡ false → Owed shape.width shape.checks shape.places h call answer }
-{
-    !watcher.owed(shape, call).is_paid(answer)
+impl Watcher {
+    // Whether an answer is not the one that the calls before make owed. One that the promise allows never is, and at a watched place one that it does not allow always is.
+    fn does_differ(self, call: Call, answer: Answer) -> bool
+        ensures fair { (h : History) → Watches self h → OwedAt self.shape h call answer → result ≡ false }
+        ensures found { (h : History) → Watches self h → (p : ℕ) → named call ≡ Some p → p < 4 → result ≡ false → OwedAt self.shape h call answer }
+    {
+        self.owed(call).is_some_and(|due| !due.is_paid(answer))
+    }
 }
 
 // Goes through calls on a new unit and their answers. A run that keeps the promise is never blamed, and one that is not blamed keeps it at the watched places.
 pub fn audit(shape: Shape, calls: &[Call], answers: &[Answer]) -> Findings
     ensures made { result.made ≡ min (length calls.now) (length answers.now) }
     ensures fair { AllOwed shape.width shape.checks shape.places (past [] (take result.made calls.now) (take result.made answers.now)) → result.differing ≡ 0 }
-    ensures found { result.differing ≡ 0 → WatchedOwed shape.width shape.checks shape.places (past [] (take result.made calls.now) (take result.made answers.now)) }
+    ensures found { result.differing ≡ 0 → WatchedOwed shape (past [] (take result.made calls.now) (take result.made answers.now)) }
 {
-    let mut watcher = Watcher::new();
-    let mut made = 0;
+    let mut watcher = Watcher::new(shape);
     let mut differing = 0;
-    while made < calls.len() && made < answers.len() {
-        let call = calls[made];
-        let answer = answers[made];
-        if does_differ(watcher, shape, call, answer) {
+    for (call, answer) in calls.iter().zip(answers) {
+        if watcher.does_differ(*call, *answer) {
             differing += 1;
         }
-        watcher = watcher.after(shape, call, answer);
-        made += 1;
+        watcher = watcher.after(*call, *answer);
     }
-    Findings { made, differing }
+    Findings {
+        made: calls.len().min(answers.len()),
+        differing,
+    }
 }

@@ -8,7 +8,7 @@ mod watchers;
 mod watching;
 
 pub use auditing::{Findings, audit};
-pub use owing::{Due, Verdict};
+pub use owing::{Due, Verdict, judge};
 pub use shapes::Shape;
-pub use watchers::{LogWatch, Watcher, place_named};
+pub use watchers::{Watcher, place_named};
 pub use watching::Watch;

@@ -1,82 +1,46 @@
 // What the promise makes of an answer, worked out from the calls before it.
-ghost use Rattle.std.specs.Prelude.{◌≡◌, ℕ, ◌+◌, ◌/◌, if◌then◌else◌, Some, None, Decides, nat_lt};
-ghost use Rattle.unit.specs.declared.calls.Answer.{Answer as Answered};
+ghost use Rattle.std.specs.Prelude.{◌≡◌, ℕ, Some, None, ◌↔◌, IsTrue};
+ghost use Rattle.unit.specs.Steps.{Answer as Answered};
+ghost use Rattle.unit.specs.declared.calls.Reply.{Reply as Replied};
+ghost use Rattle.word.specs.declared.words.Word.{Word as Worded};
 ghost use Rattle.runs.specs.Histories.{History};
 ghost use Rattle.runs.specs.Promises.{keeps, meets, Owed};
+ghost use Rattle.audit.specs.Shapes.{cells_of, lanes_of};
 ghost use Rattle.audit.specs.Watching.{Sees};
-ghost use Rattle.audit.specs.declared.owing.Due.TheVariants.{Nothing, Done as DONE, Gave as GAVE, Merged as MERGED, Refused as REFUSED, LogWord as LOGWORD};
-ghost use Rattle.audit.specs.Owing.{Same, Pays, Judged, named, finding, due_read, due_merge, due_inject, due_at};
+ghost use Rattle.audit.specs.Owing.{Pays, Settles, Judged, named, finding, due_reading, due_inject, due_at};
 
 use crate::shapes::Shape;
 use crate::watching::Watch;
-use unit::{Answer, Call};
+use unit::{Answer, Call, Reply};
 use word::{Fault, Refusal, Word};
 
 // The answer that is owed to a call.
 #[derive(Clone, Copy)]
 pub enum Due {
-    // any answer will do
-    Nothing,
-    // granted, with nothing to tell
-    Done,
-    // this word, read
-    Gave(Word),
-    // this word, read by a merge or a scrub
-    Merged(Word),
-    Refused(Fault),
+    This(Answer),
     // a log word, and its counter if that is owed too
     LogWord(Option<u8>),
 }
 
-// Whether an answer is a plain grant.
-fn is_done(answer: Answer) -> bool
-    ensures { Decides result (Pays DONE answer) }
-{
-    match answer {
-        Answer::Done => true,
-        _ => false,
-    }
-}
-
-// Whether an answer is this word, read.
-fn is_word(answer: Answer, word: Word) -> bool
-    ensures { Decides result (Pays (GAVE word) answer) }
-{
-    match answer {
-        Answer::Gave(given) => given == word,
-        _ => false,
-    }
-}
-
-// Whether an answer is this word, read by a merge or a scrub.
-fn is_old(answer: Answer, word: Word) -> bool
-    ensures { Decides result (Pays (MERGED word) answer) }
-{
-    match answer {
-        Answer::Merged(Some(given)) => given == word,
-        _ => false,
-    }
-}
-
-// Whether an answer is this refusal.
-fn is_refusal(answer: Answer, fault: Fault) -> bool
-    ensures { Decides result (Pays (REFUSED fault) answer) }
-{
-    match answer {
-        Answer::Refused(given) => given == fault,
-        _ => false,
+impl Due {
+    // Whether an answer is the one that is owed.
+    pub fn is_paid(self, answer: Answer) -> bool
+        ensures { IsTrue result ↔ Pays self answer }
+    {
+        match self {
+            Due::This(owed) => answer == owed,
+            Due::LogWord(counter) => is_log(answer, counter),
+        }
     }
 }
 
 // Whether an answer is a log word, with this counter if there is one.
 fn is_log(answer: Answer, counter: Option<u8>) -> bool
-    ensures { Decides result (Pays (LOGWORD counter) answer) }
+    ensures { IsTrue result ↔ Pays (Due.LogWord counter) answer }
 {
-    match answer {
-        Answer::LogWord(given) => match counter {
-            Some(counter) => (given >> 24) % 16 == counter as u32,
-            None => true,
-        },
+    match (answer, counter) {
+        (Ok(Reply::LogWord(_)), None) => true,
+        (Ok(Reply::LogWord(word)), Some(counter)) => (word >> 24) % 16 == counter as u32,
         _ => false,
     }
 }
@@ -89,35 +53,14 @@ pub enum Verdict {
     Differs,
 }
 
-impl Due {
-    // Whether an answer is the one that is owed.
-    pub(crate) fn is_paid(self, answer: Answer) -> bool
-        ensures { Decides result (Pays self answer) }
-    {
-        match self {
-            Due::Nothing => true,
-            Due::Done => is_done(answer),
-            Due::Gave(word) => is_word(answer, word),
-            Due::Merged(word) => is_old(answer, word),
-            Due::Refused(fault) => is_refusal(answer, fault),
-            Due::LogWord(counter) => is_log(answer, counter),
-        }
-    }
-
-    // An answer beside the one that is owed.
-    pub fn judge(self, answer: Answer) -> Verdict
-        ensures { Judged self answer result }
-    {
-        match self {
-            Due::Nothing => Verdict::Free,
-            _ => {
-                if self.is_paid(answer) {
-                    Verdict::Agrees
-                } else {
-                    Verdict::Differs
-                }
-            }
-        }
+// An answer beside the one that is owed, if there is one.
+pub fn judge(owed: Option<Due>, answer: Answer) -> Verdict
+    ensures { Judged owed answer result }
+{
+    match owed {
+        None => Verdict::Free,
+        Some(due) if due.is_paid(answer) => Verdict::Agrees,
+        Some(_) => Verdict::Differs,
     }
 }
 
@@ -130,61 +73,22 @@ fn does_keep(shape: Shape, word: Word, enables: u8) -> bool
     fits && exist && enables != 0
 }
 
-// A place, if the unit has it.
-fn existing(shape: Shape, place: u16) -> Option<u16>
-    ensures { result ≡ (if nat_lt place shape.places then Some place else None) }
-{
-    if (place as u32) < shape.places {
-        Some(place)
-    } else {
-        None
-    }
-}
-
 // The place that a call reads: a read, a scrub or a merge that keeps a lane, unless its own arguments are refused.
 pub(crate) fn place_met(shape: Shape, call: Call) -> Option<u16>
     ensures { result ≡ meets shape.width shape.checks shape.places call }
 {
-    match call {
-        Call::Read(place) => existing(shape, place),
-        Call::Merge(place, word, enables) => {
-            if does_keep(shape, word, enables) {
-                existing(shape, place)
-            } else {
-                None
-            }
-        }
-        Call::Scrub(place) => existing(shape, place),
-        _ => None,
-    }
-}
-
-// The answer owed to a read that is to find this.
-fn owe_read(found: Option<Result<Word, Fault>>) -> Due
-    ensures { result ≡ due_read found }
-{
-    match found {
-        Some(Ok(word)) => Due::Gave(word),
-        Some(Err(fault)) => Due::Refused(fault),
-        None => Due::Nothing,
-    }
-}
-
-// The answer owed to a merge that keeps a lane, or to a scrub, that is to find this.
-fn owe_merge(found: Option<Result<Word, Fault>>) -> Due
-    ensures { result ≡ due_merge found }
-{
-    match found {
-        Some(Ok(word)) => Due::Merged(word),
-        Some(Err(fault)) => Due::Refused(fault),
-        None => Due::Nothing,
-    }
+    let place = match call {
+        Call::Read(place) | Call::Scrub(place) => place,
+        Call::Merge(place, word, enables) if does_keep(shape, word, enables) => place,
+        _ => return None,
+    };
+    ((place as u32) < shape.places).then_some(place)
 }
 
 impl Watch {
     // What a reading of this place is to find, if the place is in hand.
     fn found(self, shape: Shape) -> Option<Result<Word, Fault>>
-        ensures { result ≡ finding (shape.width + shape.checks) self }
+        ensures { result ≡ finding (cells_of shape) self }
     {
         if !self.in_hand {
             return None;
@@ -196,46 +100,53 @@ impl Watch {
         }
     }
 
-    // The answer owed to an inject into this place.
-    fn owe_inject(self, shape: Shape, cell: u8) -> Due
-        ensures { result ≡ due_inject (shape.width + shape.checks) self cell }
+    // The answer owed to a reading of this place, which makes this reply of a word.
+    fn owe_reading<F: FnOnce(Word) -> Reply>(self, shape: Shape, reply: F) -> Option<Due>
+        requires { F.IsAlwaysCallable reply }
+        ensures { (told : Worded → Replied) → ((w : Worded) (r : Replied) → F.post reply w r → r ≡ told w) → result ≡ due_reading told (finding (cells_of shape) self) }
     {
-        if !self.in_hand {
-            Due::Nothing
-        } else if cell < shape.cells() {
-            Due::Done
-        } else {
-            Due::Refused(Fault::arise(Refusal::Cell, self.place))
-        }
+        let found = self.found(shape)?;
+        Some(Due::This(found.map(reply)))
     }
 
-    // The answer owed to a merge at this place.
-    fn owe_kept(self, shape: Shape, word: Word, enables: u8) -> Due
-        ensures { result ≡ (if keeps shape.width shape.checks 0 word enables then due_merge (finding (shape.width + shape.checks) self) else Nothing) }
+    // The answer owed to a merge or a scrub of this place that reads it.
+    fn owe_old(self, shape: Shape) -> Option<Due>
+        ensures { result ≡ due_reading (λ old. Reply.Merged (Some old)) (finding (cells_of shape) self) }
     {
-        if does_keep(shape, word, enables) {
-            owe_merge(self.found(shape))
-        } else {
-            Due::Nothing
+        self.owe_reading(shape, |old| Reply::Merged(Some(old)))
+    }
+
+    // The answer owed to an inject into this place.
+    fn owe_inject(self, shape: Shape, cell: u8) -> Option<Due>
+        ensures { result ≡ due_inject (cells_of shape) self cell }
+    {
+        if !self.in_hand {
+            return None;
         }
+        let answer = if cell < shape.cells() {
+            Ok(Reply::Done)
+        } else {
+            Err(Fault::arise(Refusal::Cell, self.place))
+        };
+        Some(Due::This(answer))
     }
 
     // The answer owed to a call that names this place, as its watch has it.
-    fn owe(self, shape: Shape, call: Call) -> Due
+    fn owe(self, shape: Shape, call: Call) -> Option<Due>
         ensures { result ≡ due_at shape.width shape.checks self call }
     {
         match call {
-            Call::Read(_) => owe_read(self.found(shape)),
-            Call::Merge(_, word, enables) => self.owe_kept(shape, word, enables),
-            Call::Scrub(_) => owe_merge(self.found(shape)),
+            Call::Read(_) => self.owe_reading(shape, Reply::Gave),
+            Call::Merge(_, word, enables) if does_keep(shape, word, enables) => self.owe_old(shape),
+            Call::Scrub(_) => self.owe_old(shape),
             Call::Inject(_, cell) => self.owe_inject(shape, cell),
-            _ => Due::Nothing,
+            _ => None,
         }
     }
 
     // The answer owed to a call that names this place: what pays it is what the promise asks for, no more and no less.
-    pub(crate) fn owed(self, shape: Shape, call: Call) -> Due
-        ensures { (places : ℕ) (h : History) → Sees (shape.width + shape.checks) (shape.width / 8) h self → named call ≡ Some self.place → (a : Answered) → Same (Pays result a) (Owed shape.width shape.checks places h call a) }
+    pub(crate) fn owed(self, shape: Shape, call: Call) -> Option<Due>
+        ensures { (places : ℕ) (h : History) → Sees (cells_of shape) (lanes_of shape) h self → named call ≡ Some self.place → (a : Answered) → Settles result a ↔ Owed shape.width shape.checks places h call a }
     {
         self.owe(shape, call)
     }

@@ -2,11 +2,13 @@
 ghost use Rattle.std.specs.Prelude.{◌≡◌, ℕ, ◌+◌, ◌*◌, ◌/◌, ◌<◌, ◌≤◌, true, false, not, ◌&&◌, [], ◌∷◌, if◌then◌else◌};
 ghost use Rattle.word.specs.Words.{value};
 ghost use Rattle.runs.specs.Histories.{History, granted as is_granted, writes, stores, hits, number_of, of_cells, merged_cell, laid_by};
+ghost use Rattle.audit.specs.Shapes.{cells_of, lanes_of};
 ghost use Rattle.audit.specs.Watching.{marked, Sees, Told};
 
 use crate::shapes::Shape;
+use parts::merge_words;
 use unit::{Answer, Call};
-use word::{Word, join_lanes, lanes_of};
+use word::Word;
 
 // A place, and its past in the words of the promise.
 #[derive(Clone, Copy)]
@@ -24,10 +26,7 @@ pub struct Watch {
 fn grants(answer: Answer) -> bool
     ensures { result ≡ is_granted answer }
 {
-    match answer {
-        Answer::Refused(_) => false,
-        _ => true,
-    }
+    answer.is_ok()
 }
 
 // Whether a call stores a whole word at a place: a write, or a merge that keeps no lane.
@@ -35,8 +34,7 @@ fn does_write(place: u16, call: Call) -> bool
     ensures { result ≡ writes place call }
 {
     match call {
-        Call::Write(at, _) => place == at,
-        Call::Merge(at, _, enables) => place == at && enables == 0,
+        Call::Write(at, _) | Call::Merge(at, _, 0) => place == at,
         _ => false,
     }
 }
@@ -46,9 +44,7 @@ fn does_store(place: u16, call: Call) -> bool
     ensures { result ≡ stores place call }
 {
     match call {
-        Call::Write(at, _) => place == at,
-        Call::Merge(at, _, _) => place == at,
-        Call::Scrub(at) => place == at,
+        Call::Write(at, _) | Call::Merge(at, _, _) | Call::Scrub(at) => place == at,
         _ => false,
     }
 }
@@ -58,21 +54,9 @@ fn merge_lanes(lanes: u8, enables: u8, old: Word, new: Word) -> Word
     requires { lanes ≤ 8 }
     ensures { value result ≡ of_cells (merged_cell enables (value old) (value new)) (8 * lanes) }
 {
-    let olds = lanes_of(old.low);
-    let news = lanes_of(new.low);
-    let mut bytes = [0u8; 8];
-    for lane in 0..lanes {
-        let at = lane as usize;
-        bytes[at] = if (enables >> lane) % 2 == 1 {
-            olds[at]
-        } else {
-            news[at]
-        };
-    }
-    Word {
-        low: join_lanes(bytes),
-        top: 0,
-    }
+    let (old, _) = old.split(8 * lanes);
+    let (new, _) = new.split(8 * lanes);
+    Word::from(merge_words(enables, old.low, new.low))
 }
 
 // The word that a call stores over an old one.
@@ -123,22 +107,17 @@ impl Watch {
     }
 
     // How many of its first cells are upset.
-    pub(crate) fn upset_cells(&self, cells: u8) -> u8
+    pub(crate) fn upset_cells(&self, cells: u8) -> usize
         requires { cells ≤ 72 }
         ensures { result ≡ number_of (marked self.now.upset) cells }
     {
-        let mut count = 0;
-        for cell in 0..cells {
-            if self.upset[cell as usize] {
-                count += 1;
-            }
-        }
-        count
+        let cells = &self.upset[..cells as usize];
+        cells.iter().filter(|upset| **upset).count()
     }
 
     // After one more granted call, but for its being in hand.
     fn granted(self, shape: Shape, call: Call) -> Watch
-        ensures { Told 72 (shape.width / 8) call self result }
+        ensures { Told 72 (lanes_of shape) call self result }
     {
         if does_store(self.place, call) {
             Watch {
@@ -157,7 +136,7 @@ impl Watch {
     // After one more call.
     pub(crate) fn after(self, shape: Shape, call: Call, answer: Answer) -> Watch
         ensures here { result.place ≡ self.place }
-        ensures seen { (h : History) → Sees (shape.width + shape.checks) (shape.width / 8) h self → Sees (shape.width + shape.checks) (shape.width / 8) (record { call = call; answer = answer } ∷ h) result }
+        ensures seen { (h : History) → Sees (cells_of shape) (lanes_of shape) h self → Sees (cells_of shape) (lanes_of shape) (record { call = call; answer = answer } ∷ h) result }
     {
         let granted = grants(answer);
         let told = if granted {

@@ -19,7 +19,7 @@ pub extern "C" fn edc_write64(bytes: &mut [u8], place: u16, data: u64) -> u8
     ensures after { bytes.new ≡ (write_state board (over bytes.entry) place «data»).card.bytes }
 {
     let mut card = ByteCard::new(72, bytes);
-    match write_over(&Code64, &mut card, place, Word { low: data, top: 0 }) {
+    match write_over(&Code64, &mut card, place, Word::from(data)) {
         Ok(()) => 0,
         Err(fault) => u8::from(fault.refusal),
     }

@@ -10,7 +10,7 @@ ghost use Rattle.code.specs.Decoding.{decoded_parts};
 ghost use Rattle.codes.specs.Tables.{code64};
 ghost use Rattle.capi.specs.Handing.{status, handed};
 
-use code::{Code, decode};
+use code::Code;
 use codes::Code64;
 
 // The check bits of a data word.
@@ -27,7 +27,7 @@ pub extern "C" fn edc_decode64(data: &mut u64, check: u8) -> u8
     ensures answer { result ≡ status (decoded_parts code64 «data».old check) }
     ensures after { «data».new ≡ handed «data».old (decoded_parts code64 «data».old check) }
 {
-    match decode(&Code64, *data, check) {
+    match Code64.decode(*data, check) {
         Ok(word) => {
             *data = word;
             0

@@ -3,8 +3,9 @@ ghost use Rattle.card_tests.specs.Worn.{worn_card};
 ghost use Rattle.std.proofs.Common.{rules};
 
 use card::Card;
-use word::{Fault, Refusal, Word};
+use word::{Fault, Refusal, Word, check_place, check_width};
 
+// Four places: a byte, or none where the place is faulty.
 #[derive(Drop)]
 pub struct WornCard {
     pub bytes: [Option<u8>; 4],
@@ -22,30 +23,19 @@ impl Card for WornCard {
     }
 
     fn count(&self) -> u32 {
-        let bytes: &[Option<u8>] = &self.bytes;
-        bytes.len() as u32
+        self.bytes.len() as u32
     }
 
     fn read(&mut self, place: u16) -> Result<Word, Fault> {
-        if place as u32 >= self.count() {
-            return Err(Fault::arise(Refusal::Place, place));
-        }
-        match self.bytes[place as usize] {
-            Some(byte) => Ok(Word {
-                low: byte as u64,
-                top: 0,
-            }),
-            None => Err(Fault::arise(Refusal::Many, place)),
-        }
+        check_place(place, self.count())?;
+        self.bytes[place as usize]
+            .map(|byte| Word::from(byte as u64))
+            .ok_or(Fault::arise(Refusal::Many, place))
     }
 
     fn write(&mut self, place: u16, word: Word) -> Result<(), Fault> {
-        if place as u32 >= self.count() {
-            return Err(Fault::arise(Refusal::Place, place));
-        }
-        if !word.fits(8) {
-            return Err(Fault::arise(Refusal::Wide, place));
-        }
+        check_place(place, self.count())?;
+        check_width(word, 8, place)?;
         self.bytes[place as usize] = Some(word.low as u8);
         Ok(())
     }

@@ -1,7 +1,7 @@
 // The interface of a code.
-ghost use Rattle.std.specs.Prelude.{◌≡◌, ℕ, ◌+◌, List};
+ghost use Rattle.std.specs.Prelude.{◌≡◌, ℕ, ◌+◌, List, bit_xor};
 ghost use Rattle.code.specs.Codes.{CodeModel, CodeLaws, generated, located};
-ghost use Rattle.code.specs.Decoding.{corrected};
+ghost use Rattle.code.specs.Decoding.{corrected, decoded_parts};
 
 use crate::decoding::put_right;
 use crate::syndromes::Located;
@@ -58,11 +58,25 @@ pub trait Code {
     fn partial(&self, data: u64) -> u8
         ensures { result ≡ code.partial «data» };
 
+    // What the check bits differ in from those that the data generate.
+    fn syndrome_of(&self, data: u64, check: u8) -> u8
+        ensures { result ≡ bit_xor (generated code «data») check }
+    {
+        self.generate(data) ^ check
+    }
+
     // The data of a raw word that has this syndrome, with a single wrong cell put right, or a refusal.
     fn correct(&self, data: u64, syndrome: u8) -> Result<u64, Refusal>
         ensures { result ≡ corrected «data» (located code syndrome) }
     {
         put_right(data, self.locate(syndrome))
+    }
+
+    // The data with a single wrong cell put right, or a refusal.
+    fn decode(&self, data: u64, check: u8) -> Result<u64, Refusal>
+        ensures { result ≡ decoded_parts code «data» check }
+    {
+        self.correct(data, self.syndrome_of(data, check))
     }
 
     ghost widths: { (DATA ≡ code.n) × (CHECK ≡ code.k) };

@@ -7,6 +7,5 @@ mod promises;
 mod syndromes;
 
 pub use codes::Code;
-pub use decoding::{correct, decode, syndrome_of};
 pub use promises::{clean_syndrome, correctable, detectable};
 pub use syndromes::Located;

@@ -7,20 +7,23 @@ mod sheets;
 mod tables;
 
 use codes::{Cascaded64, Code16, Code32, Code64};
-use sheets::Sheet;
+use equations::compare_equations;
+use published::{FIRST32, FIRST64, SECOND32, SECOND64};
+use sheets::{compare_sheet, compare_sheet16};
 use std::io;
+use tables::print_table;
 
 fn main(rt: HostRuntime) -> io::Result<()> {
-    tables::print_table(&rt, &Code64)?;
-    tables::print_table(&rt, &Cascaded64)?;
-    tables::print_table(&rt, &Code32)?;
-    tables::print_table(&rt, &Code16)?;
-    sheets::compare_sheet(&rt, &Code64, Sheet::First64)?;
-    sheets::compare_sheet(&rt, &Code64, Sheet::Second64)?;
-    sheets::compare_sheet(&rt, &Cascaded64, Sheet::First64)?;
-    sheets::compare_sheet(&rt, &Cascaded64, Sheet::Second64)?;
-    sheets::compare_sheet(&rt, &Code32, Sheet::First32)?;
-    sheets::compare_sheet(&rt, &Code32, Sheet::Second32)?;
-    sheets::compare_sheet16(&rt)?;
-    equations::compare_equations(&rt)
+    print_table(&rt, &Code64)?;
+    print_table(&rt, &Cascaded64)?;
+    print_table(&rt, &Code32)?;
+    print_table(&rt, &Code16)?;
+    compare_sheet(&rt, &Code64, &FIRST64)?;
+    compare_sheet(&rt, &Code64, &SECOND64)?;
+    compare_sheet(&rt, &Cascaded64, &FIRST64)?;
+    compare_sheet(&rt, &Cascaded64, &SECOND64)?;
+    compare_sheet(&rt, &Code32, &FIRST32)?;
+    compare_sheet(&rt, &Code32, &SECOND32)?;
+    compare_sheet16(&rt)?;
+    compare_equations(&rt)
 }

@@ -1,141 +1,147 @@
 // Codes held to published decode tables, entry by entry.
-ghost use Rattle.std.specs.Prelude.{◌≡◌, ◌<◌};
-ghost use Rattle.decode_tables.specs.Sheets.{entry_count, syndrome_at, located_column};
+ghost use Rattle.std.specs.Prelude.{◌≡◌, ℕ, ◌<◌, ◌≤◌};
+ghost use Rattle.decode_tables.specs.Sheets.{first_syndrome, second_syndrome, located_column};
 
-use crate::published::{
-    BIT0, BIT1, BIT2, BIT3, BIT4, BIT5, first_row32, first_row64, second_row32, second_row64,
-};
-use crate::tables::print_located;
+use crate::equations::check_bits;
+use crate::published::BITS16;
 use code::{Code, Located};
 use codes::Code16;
+use std::fmt::Display;
 use std::io;
 
-#[derive(Clone, Copy)]
-pub enum Sheet {
-    First64,
-    First32,
-    Second64,
-    Second32,
-}
+// How a maker counts in its tables of sixteen rows.
+pub trait Maker {
+    ghost syndrome_at: { ℕ → ℕ → ℕ → ℕ };
 
-impl Sheet {
-    fn title(self) -> &'static str {
-        match self {
-            Sheet::First64 => "the first maker's 64-bit table",
-            Sheet::First32 => "the first maker's 32-bit table",
-            Sheet::Second64 => "the second maker's 64-bit table",
-            Sheet::Second32 => "the second maker's 32-bit table",
-        }
-    }
-
-    // How many entries the table has, in sixteen rows.
-    fn entries(self) -> u32
-        ensures { result ≡ entry_count self }
-    {
-        match self {
-            Sheet::First64 | Sheet::Second64 => 256,
-            Sheet::First32 | Sheet::Second32 => 128,
-        }
-    }
-
-    fn row(self, row: u8) -> &'static str {
-        match self {
-            Sheet::First64 => first_row64(row),
-            Sheet::First32 => first_row32(row),
-            Sheet::Second64 => second_row64(row),
-            Sheet::Second32 => second_row32(row),
-        }
-    }
-
-    // The syndrome of an entry. The second maker counts its syndrome bits from the left.
-    fn syndrome(self, row: u8, column: u8) -> u8
-        ensures { result ≡ syndrome_at self row column }
-    {
-        match self {
-            Sheet::First64 | Sheet::First32 => column % 16 * 16 + row % 16,
-            Sheet::Second64 => (row % 16 * 16 + column % 16).reverse_bits(),
-            Sheet::Second32 => (row % 16 * 8 + column % 8).reverse_bits() / 2,
-        }
-    }
+    // The syndrome of an entry, in a table of so many columns.
+    fn syndrome(&self, columns: u8, row: u8, column: u8) -> u8
+        requires { (0 < columns) × (columns ≤ 16) }
+        ensures { result ≡ syndrome_at columns row column };
 
     // The check cell of a name after C.
-    fn check_cell(self, name: &str) -> Option<u8> {
-        match self {
-            Sheet::First64 | Sheet::First32 => name.parse::<u8>().ok(),
-            Sheet::Second64 | Sheet::Second32 => second_check_cell(name),
-        }
+    fn check_cell(&self, name: &str) -> Option<u8>;
+}
+
+// The first maker counts its syndrome bits from the right, and numbers its check cells.
+pub struct First;
+
+impl Maker for First {
+    ghost syndrome_at = { first_syndrome };
+
+    fn syndrome(&self, _columns: u8, row: u8, column: u8) -> u8 {
+        column % 16 * 16 + row % 16
     }
 
+    fn check_cell(&self, name: &str) -> Option<u8> {
+        name.parse::<u8>().ok()
+    }
+}
+
+// The second maker counts its syndrome bits from the left. It calls check cell 0 CX, and the others by powers of two, but for C0.
+pub struct Second;
+
+impl Maker for Second {
+    ghost syndrome_at = { second_syndrome };
+
+    fn syndrome(&self, columns: u8, row: u8, column: u8) -> u8 {
+        (row % 16 * columns + column % columns).reverse_bits() / (16 / columns)
+    }
+
+    fn check_cell(&self, name: &str) -> Option<u8> {
+        let names = ["X", "0", "1", "2", "4", "8", "16", "32"];
+        let cell = names.iter().position(|known| *known == name)?;
+        u8::try_from(cell).ok()
+    }
+}
+
+// A published table.
+pub struct Sheet<M> {
+    pub maker: M,
+    pub title: &'static str,
+    pub columns: u8,
+    pub rows: [&'static str; 16],
+    ghost fits: { (0 < columns) × (columns ≤ 16) },
+}
+
+impl<M: Maker> Sheet<M> {
     // What an entry says.
-    fn read(self, entry: &str) -> Option<Located> {
+    fn read(&self, entry: &str) -> Option<Located> {
         match entry {
             "*" => Some(Located::Clean),
             "T" => Some(Located::Two),
             "M" => Some(Located::Many),
             _ => match entry.strip_prefix('C') {
-                Some(name) => Some(Located::Check(self.check_cell(name)?)),
+                Some(name) => Some(Located::Check(self.maker.check_cell(name)?)),
                 None => Some(Located::Data(entry.parse::<u8>().ok()?)),
             },
         }
     }
 }
 
-// The second maker calls check cell 0 CX, and the others by powers of two, but for C0.
-fn second_check_cell(name: &str) -> Option<u8> {
-    match name {
-        "X" => Some(0),
-        "0" => Some(1),
-        "1" => Some(2),
-        "2" => Some(3),
-        "4" => Some(4),
-        "8" => Some(5),
-        "16" => Some(6),
-        "32" => Some(7),
-        _ => None,
+// Whether a code says of a syndrome what is said in print; where it does not, both are shown.
+fn compare_entry<C: Code>(
+    rt: &impl Print,
+    code: &C,
+    syndrome: u8,
+    said: Option<Located>,
+    entry: &impl Display,
+) -> io::Result<bool> {
+    let located = code.locate(syndrome);
+    let agrees = said == Some(located);
+    if !agrees {
+        println!(rt; "{syndrome:02x} is {entry} in print, and here {located}")?;
     }
+    Ok(agrees)
 }
 
 // How many entries of a row agree with the code; the others are named.
-fn compare_row<C: Code>(rt: &impl Print, code: &C, sheet: Sheet, row: u8) -> io::Result<u32> {
+fn compare_row<C: Code, M: Maker>(
+    rt: &impl Print,
+    code: &C,
+    sheet: &Sheet<M>,
+    row: u8,
+    entries: &str,
+) -> io::Result<u32> {
     let mut agreed = 0u32;
-    let mut column = 0u8;
-    for entry in sheet.row(row).split_whitespace() {
-        let syndrome = sheet.syndrome(row, column);
-        let located = code.locate(syndrome);
-        if sheet.read(entry) == Some(located) {
-            agreed = agreed.saturating_add(1);
-        } else {
-            print!(rt; "{syndrome:02x} is {entry} in print, and here ")?;
-            print_located(rt, located)?;
-            println!(rt; "")?;
-        }
-        column = column.wrapping_add(1);
+    for (column, entry) in (0..sheet.columns).zip(entries.split_whitespace()) {
+        let syndrome = sheet.maker.syndrome(sheet.columns, row, column);
+        let agrees = compare_entry(rt, code, syndrome, sheet.read(entry), &entry)?;
+        agreed = agreed.saturating_add(u32::from(agrees));
     }
     Ok(agreed)
 }
 
-pub fn compare_sheet<C: Code>(rt: &impl Print, code: &C, sheet: Sheet) -> io::Result<()> {
+// How many entries of a table agree with the code.
+pub fn compare_sheet<C: Code, M: Maker>(
+    rt: &impl Print,
+    code: &C,
+    sheet: &Sheet<M>,
+) -> io::Result<()> {
     let mut agreed = 0u32;
-    for row in 0..16u8 {
-        agreed = agreed.saturating_add(compare_row(rt, code, sheet, row)?);
+    for (row, entries) in (0..16u8).zip(sheet.rows) {
+        agreed = agreed.saturating_add(compare_row(rt, code, sheet, row, entries)?);
     }
+    tell_agreed(rt, code, agreed, 16 * sheet.columns as u32, sheet.title)
+}
+
+// What came of a comparison.
+fn tell_agreed<C: Code>(
+    rt: &impl Print,
+    code: &C,
+    agreed: u32,
+    entries: u32,
+    title: &str,
+) -> io::Result<()> {
     let name = code.name();
-    let entries = sheet.entries();
-    let title = sheet.title();
     println!(rt; "{name}: {agreed} of {entries} entries agree with {title}")
 }
 
-// The syndrome of an entry of the 16-bit table.
-fn syndrome16(column: usize) -> u8
+// The syndrome of an entry of the 16-bit table, whose columns count from the left: each row has a digit of it.
+fn syndrome16(column: u8) -> u8
     requires { column < 23 }
     ensures { result < 64 }
 {
-    BIT0[column] % 2
-        + BIT1[column] % 2 * 2
-        + BIT2[column] % 2 * 4
-        + BIT3[column] % 2 * 8
-        + BIT4[column] % 2 * 16
-        + BIT5[column] % 2 * 32
+    check_bits(&BITS16, 1 << (22 - column))
 }
 
 // What the table's columns stand for: the data bits, the check bits, and no error.
@@ -151,19 +157,19 @@ fn located16(column: u8) -> Located
     }
 }
 
+// How many entries of the 16-bit table agree with its code.
 pub fn compare_sheet16(rt: &impl Print) -> io::Result<()> {
     let mut agreed = 0u32;
     for column in 0..23u8 {
-        let syndrome = syndrome16(column as usize);
-        let located = Code16.locate(syndrome);
-        if located == located16(column) {
-            agreed = agreed.saturating_add(1);
-        } else {
-            print!(rt; "{syndrome:02x} is column {column} in print, and here ")?;
-            print_located(rt, located)?;
-            println!(rt; "")?;
-        }
+        let syndrome = syndrome16(column);
+        let agrees = compare_entry(
+            rt,
+            &Code16,
+            syndrome,
+            Some(located16(column)),
+            &format_args!("column {column}"),
+        )?;
+        agreed = agreed.saturating_add(u32::from(agrees));
     }
-    let name = Code16.name();
-    println!(rt; "{name}: {agreed} of 23 entries agree with the maker's 16-bit table")
+    tell_agreed(rt, &Code16, agreed, 23, "the maker's 16-bit table")
 }

@@ -15,8 +15,7 @@ fn main(rt: HostRuntime) -> io::Result<()> {
     let mut screen = rt.stdout();
     match run_session(text.as_slice(), out.as_mut_slice()) {
         Ok(report) => {
-            let written = report.written;
-            screen.write_all(&out.as_slice()[0..written])?;
+            screen.write_all(&out.as_slice()[..report.written])?;
             if report.stopped {
                 screen.write_all(&space_line())?;
             }

@@ -1,12 +1,11 @@
 -- The log: what it holds, and what a reading makes of it. Assumes nothing.
-use Rattle.std.specs.Prelude.{ℕ, ◌+◌, ◌*◌, ◌^◌, min, Bool, cond, Some, None, Option, ◌==◌}
+use Rattle.std.specs.Prelude.{◌≡◌, ◌≤◌, ℕ, ◌+◌, ◌*◌, ◌^◌, min, Bool, cond, Some, None, Option, ◌==◌}
 use Rattle.code.specs.Codes.{CodeModel}
-use Rattle.error_log.specs.Kinds.{kind_of, kind_bits}
+use Rattle.error_log.specs.Kinds.{is_quiet, kind_of, kind_bits}
 use Rattle.error_log.specs.declared.records.Kind.{Kind}
 use Rattle.error_log.specs.declared.records.Kind.TheVariants.{Quiet}
 use Rattle.error_log.specs.declared.records.RawWord.{RawWord}
 use Rattle.error_log.specs.declared.records.FirstError.{FirstError}
-use Rattle.error_log.specs.declared.logs.Log.{Log}
 
 pub record LogState : Type 0 where
   -- errors since the log was new or cleared, held at 15
@@ -24,9 +23,10 @@ abbrev pub with_raw : Option ℕ → RawWord → Option FirstError
 with_raw None r = None
 with_raw (Some p) r = Some (record { place = p; raw = r })
 
--- what the program's log stands for
-abbrev pub log_of : Log → LogState
-log_of l = record { counter = l.counter; kind = l.kind; syndrome = l.syndrome; taken = l.taken; first = with_raw l.first l.first_raw }
+-- what every log keeps: its counter never passes 15, and there is no error exactly where it is 0
+pub record LogKept (counter : ℕ) (kind : Kind) : Type 0 where
+  pub held : counter ≤ 15
+  pub agree : (counter == 0) ≡ is_quiet kind
 
 -- a new log, and a cleared one
 abbrev pub new_log : LogState

@@ -1,8 +1,6 @@
 // The log of a unit.
-ghost use Rattle.std.specs.Prelude.{◌≡◌, ◌≤◌, ◌==◌};
-ghost use Rattle.error_log.specs.Kinds.{is_quiet};
-
 use crate::records::{Kind, RawWord};
+use std::marker::Model;
 
 mod keeping;
 
@@ -19,6 +17,14 @@ pub struct Log {
     // the place of the first error, and the raw word that was taken there
     first: Option<u16>,
     first_raw: RawWord,
-    ghost held: { counter ≤ 15 },
-    ghost agree: { (counter == 0) ≡ is_quiet kind },
+}
+
+impl Model for Log {
+    ghost use Rattle.error_log.specs.Logs.{LogState, LogKept, with_raw};
+
+    ghost Value = { LogState };
+
+    ghost view = { λ l. record { counter = l.counter; kind = l.kind; syndrome = l.syndrome; taken = l.taken; first = with_raw l.first l.first_raw } };
+
+    ghost invariant = { λ l. LogKept l.counter l.kind };
 }

@@ -17,13 +17,12 @@ impl Draws {
         Draws { state: start | 1 }
     }
 
+    // The next number.
     fn next(&mut self) -> u64 {
-        let mut x = self.state;
-        x ^= x << 13;
-        x ^= x >> 7;
-        x ^= x << 17;
-        self.state = x;
-        x
+        self.state ^= self.state << 13;
+        self.state ^= self.state >> 7;
+        self.state ^= self.state << 17;
+        self.state
     }
 
     // One of the numbers below `many`.
@@ -59,12 +58,9 @@ impl Draws {
             return Word { low, top: 1 };
         }
         if shape.width == 64 {
-            Word { low, top: 0 }
+            Word::from(low)
         } else {
-            Word {
-                low: low % 0x1_0000_0000,
-                top: 0,
-            }
+            Word::from(low % 0x1_0000_0000)
         }
     }
 
@@ -77,6 +73,7 @@ impl Draws {
         }
     }
 
+    // Any call, injects and reads most often.
     pub fn call(&mut self, shape: Shape) -> Call {
         match self.below(32) {
             0..=8 => Call::Inject(self.place(), self.cell(shape)),

@@ -1,7 +1,7 @@
 // Runs with the words of the promise beside each call.
 use crate::drawing::Draws;
-use crate::texts::{AnswerText, CallText, DueText, WatchText};
-use audit::{Due, Shape, Verdict, Watcher, place_named};
+use crate::texts::{AnswerText, CallText, DueText, KnownText, VerdictText};
+use audit::{Due, Shape, Watcher, judge, place_named};
 use card::Card;
 use code::Code;
 use std::io;
@@ -11,7 +11,7 @@ use unit::{Answer, Call, Unit};
 const DRAWN: u32 = 20_000;
 
 // What came of the calls of a run.
-#[derive(Clone, Copy)]
+#[derive(Clone, Copy, Default)]
 struct Totals {
     // answers that the promise says something of
     owed: u32,
@@ -25,82 +25,38 @@ struct Totals {
 }
 
 impl Totals {
-    fn new() -> Totals {
-        Totals {
-            owed: 0,
-            differing: 0,
-            counters: 0,
-            in_hand: 0,
-            out_of_hand: 0,
+    // One more call, after those that the watcher saw.
+    fn count(&mut self, watcher: &Watcher, call: Call, answer: Answer) {
+        if let Some(place) = place_named(call)
+            && let Some(watch) = watcher.watch(place)
+        {
+            count_if(&mut self.in_hand, watch.in_hand);
+            count_if(&mut self.out_of_hand, !watch.in_hand);
         }
-    }
-
-    fn count_verdict(&mut self, verdict: Verdict) {
-        match verdict {
-            Verdict::Free => {}
-            Verdict::Agrees => self.owed = self.owed.saturating_add(1),
-            Verdict::Differs => {
-                self.owed = self.owed.saturating_add(1);
-                self.differing = self.differing.saturating_add(1);
-            }
-        }
-    }
-
-    fn count_counter(&mut self, owed: Due) {
-        if let Due::LogWord(Some(_)) = owed {
-            self.counters = self.counters.saturating_add(1);
-        }
-    }
-
-    fn count_place(&mut self, in_hand: bool) {
-        if in_hand {
-            self.in_hand = self.in_hand.saturating_add(1);
-        } else {
-            self.out_of_hand = self.out_of_hand.saturating_add(1);
+        if let Some(due) = watcher.owed(call) {
+            count_if(&mut self.owed, true);
+            count_if(&mut self.differing, !due.is_paid(answer));
+            count_if(&mut self.counters, matches!(due, Due::LogWord(Some(_))));
         }
     }
 }
 
-// What is known of the place of a call, or of the log, just before the call.
-fn tell_before(rt: &impl Print, watcher: &Watcher, call: Call) -> io::Result<()> {
-    match place_named(call) {
-        Some(place) => match watcher.watch(place) {
-            Some(watch) => {
-                let words = WatchText(watch);
-                print!(rt; "{words}")
-            }
-            None => print!(rt; "not watched"),
-        },
-        None if watcher.log.all_in_hand => {
-            let errors = watcher.log.errors_met;
-            print!(rt; "all readings in hand, errors met {errors}")
-        }
-        None => print!(rt; "a reading was not in hand"),
-    }
+// One more, where it counts.
+fn count_if(total: &mut u32, counts: bool) {
+    *total = total.saturating_add(u32::from(counts));
 }
 
 // One line of a history.
-fn tell_call(
-    rt: &impl Print,
-    watcher: &Watcher,
-    shape: Shape,
-    call: Call,
-    answer: Answer,
-) -> io::Result<Verdict> {
-    let owed = watcher.owed(shape, call);
-    let verdict = owed.judge(answer);
-    let call_text = CallText(call);
-    print!(rt; "{call_text}: ")?;
-    tell_before(rt, watcher, call)?;
-    let owed_text = DueText(owed);
-    let answer_text = AnswerText(answer);
-    print!(rt; "; owed {owed_text}; given {answer_text}")?;
-    match verdict {
-        Verdict::Free => println!(rt; "")?,
-        Verdict::Agrees => println!(rt; "; agrees")?,
-        Verdict::Differs => println!(rt; "; DIFFERS")?,
-    }
-    Ok(verdict)
+fn tell_call(rt: &impl Print, watcher: &Watcher, call: Call, answer: Answer) -> io::Result<()> {
+    let owed = watcher.owed(call);
+    println!(rt;
+        "{}: {}; owed {}; given {}{}",
+        CallText(call),
+        KnownText(*watcher, call),
+        DueText(owed),
+        AnswerText(answer),
+        VerdictText(judge(owed, answer))
+    )
 }
 
 // A table of calls, line by line.
@@ -110,37 +66,32 @@ pub fn tell_table<C: Code, D: Card>(
     shape: Shape,
     calls: &[Call],
 ) -> io::Result<()> {
-    let mut watcher = Watcher::new();
-    let mut totals = Totals::new();
+    let mut watcher = Watcher::new(shape);
+    let mut totals = Totals::default();
     for call in calls {
         let answer = unit.make(*call);
-        let verdict = tell_call(rt, &watcher, shape, *call, answer)?;
-        totals.count_verdict(verdict);
-        watcher = watcher.after(shape, *call, answer);
+        tell_call(rt, &watcher, *call, answer)?;
+        totals.count(&watcher, *call, answer);
+        watcher = watcher.after(*call, answer);
     }
-    let made = calls.len();
-    let owed = totals.owed;
-    let differing = totals.differing;
-    println!(rt; "{made} calls, {owed} owed an answer, {differing} differ")
+    println!(rt;
+        "{} calls, {} owed an answer, {} differ",
+        calls.len(),
+        totals.owed,
+        totals.differing
+    )
 }
 
 // Draws calls and makes them, and counts what came of them.
 fn draw_run<C: Code, D: Card>(unit: &mut Unit<C, D>, shape: Shape, start: u64) -> Totals {
     let mut draws = Draws::new(start);
-    let mut watcher = Watcher::new();
-    let mut totals = Totals::new();
+    let mut watcher = Watcher::new(shape);
+    let mut totals = Totals::default();
     for _ in 0..DRAWN {
         let call = draws.call(shape);
-        if let Some(place) = place_named(call)
-            && let Some(watch) = watcher.watch(place)
-        {
-            totals.count_place(watch.in_hand);
-        }
-        let owed = watcher.owed(shape, call);
-        totals.count_counter(owed);
         let answer = unit.make(call);
-        totals.count_verdict(owed.judge(answer));
-        watcher = watcher.after(shape, call, answer);
+        totals.count(&watcher, call, answer);
+        watcher = watcher.after(call, answer);
     }
     totals
 }
@@ -153,13 +104,12 @@ pub fn tell_draws<C: Code, D: Card>(
     start: u64,
 ) -> io::Result<()> {
     let totals = draw_run(unit, shape, start);
-    let owed = totals.owed;
-    let differing = totals.differing;
-    let counters = totals.counters;
-    let in_hand = totals.in_hand;
-    let out_of_hand = totals.out_of_hand;
     println!(rt;
-        "drawn: {DRAWN} calls, {in_hand} on places in hand, {out_of_hand} on places not in hand"
+        "drawn: {DRAWN} calls, {} on places in hand, {} on places not in hand",
+        totals.in_hand, totals.out_of_hand
     )?;
-    println!(rt; "drawn: {owed} owed an answer, {counters} of them a counter, {differing} differ")
+    println!(rt;
+        "drawn: {} owed an answer, {} of them a counter, {} differ",
+        totals.owed, totals.counters, totals.differing
+    )
 }

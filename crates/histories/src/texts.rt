@@ -1,9 +1,8 @@
 // Calls, answers and the promise's words as text.
-use audit::{Due, Watch};
-use error_log::FirstError;
+use audit::{Due, Verdict, Watch, Watcher, place_named};
 use std::fmt;
-use unit::{Answer, Call};
-use word::{Fault, Refusal, Word};
+use unit::{Answer, Call, Reply};
+use word::{Fault, Word};
 
 // A word as hexadecimal digits.
 #[derive(Clone, Copy)]
@@ -11,11 +10,11 @@ pub struct WordText(pub Word);
 
 impl fmt::Display for WordText {
     fn fmt<W: fmt::Write>(&self, f: &mut fmt::Formatter<W>) -> fmt::Result {
-        let number = u128::from(self.0);
-        write!(f, "{number:016x}")
+        write!(f, "{:016x}", u128::from(self.0))
     }
 }
 
+// A call with its arguments.
 #[derive(Clone, Copy)]
 pub struct CallText(pub Call);
 
@@ -23,35 +22,16 @@ impl fmt::Display for CallText {
     fn fmt<W: fmt::Write>(&self, f: &mut fmt::Formatter<W>) -> fmt::Result {
         match self.0 {
             Call::Read(place) => write!(f, "read {place}"),
-            Call::Write(place, word) => {
-                let word = WordText(word);
-                write!(f, "write {place} {word}")
-            }
+            Call::Write(place, word) => write!(f, "write {place} {}", WordText(word)),
             Call::Merge(place, word, enables) => {
-                let word = WordText(word);
-                write!(f, "merge {place} {word} keeping {enables:02x}")
+                write!(f, "merge {place} {} keeping {enables:02x}", WordText(word))
             }
             Call::Scrub(place) => write!(f, "scrub {place}"),
             Call::Inject(place, cell) => write!(f, "inject {place} cell {cell}"),
-            Call::Log => write!(f, "log"),
-            Call::First => write!(f, "first"),
-            Call::Clear => write!(f, "clear"),
+            Call::Log => f.write_str("log"),
+            Call::First => f.write_str("first"),
+            Call::Clear => f.write_str("clear"),
         }
-    }
-}
-
-// The name of a refusal.
-fn name(refusal: Refusal) -> &'static str {
-    match refusal {
-        Refusal::Place => "PLACE",
-        Refusal::Wide => "WIDE",
-        Refusal::Enable => "ENABLE",
-        Refusal::Cell => "CELL",
-        Refusal::Two => "TWO",
-        Refusal::Many => "MANY",
-        Refusal::Parity => "PARITY",
-        Refusal::Line => "LINE",
-        Refusal::Space => "SPACE",
     }
 }
 
@@ -61,105 +41,68 @@ pub struct FaultText(pub Fault);
 
 impl fmt::Display for FaultText {
     fn fmt<W: fmt::Write>(&self, f: &mut fmt::Formatter<W>) -> fmt::Result {
-        let name = name(self.0.refusal);
-        let place = self.0.place;
-        let depth = self.0.depth;
-        let way = self.0.way;
-        if depth == 0 && way == 0 {
-            write!(f, "{name} at {place}")
+        let fault = self.0;
+        write!(f, "{} at {}", fault.refusal, fault.place)?;
+        if fault.depth == 0 && fault.way == 0 {
+            Ok(())
         } else {
-            write!(f, "{name} at {place} depth {depth} way {way:04x}")
+            write!(f, " depth {} way {:04x}", fault.depth, fault.way)
         }
     }
 }
 
-// The word that a merge or a scrub read, or none.
-#[derive(Clone, Copy)]
-pub struct OldText(pub Option<Word>);
-
-impl fmt::Display for OldText {
-    fn fmt<W: fmt::Write>(&self, f: &mut fmt::Formatter<W>) -> fmt::Result {
-        match self.0 {
-            Some(word) => {
-                let word = WordText(word);
-                write!(f, "over {word}")
-            }
-            None => write!(f, "over no word"),
-        }
-    }
-}
-
-#[derive(Clone, Copy)]
-pub struct FirstText(pub Option<FirstError>);
-
-impl fmt::Display for FirstText {
-    fn fmt<W: fmt::Write>(&self, f: &mut fmt::Formatter<W>) -> fmt::Result {
-        match self.0 {
-            Some(first) => {
-                let place = first.place;
-                let bits = first.raw.data;
-                let check = first.raw.check;
-                write!(f, "at {place} data {bits:x} check {check:02x}")
-            }
-            None => write!(f, "no error"),
-        }
-    }
-}
-
+// An answer with what it tells.
 #[derive(Clone, Copy)]
 pub struct AnswerText(pub Answer);
 
 impl fmt::Display for AnswerText {
     fn fmt<W: fmt::Write>(&self, f: &mut fmt::Formatter<W>) -> fmt::Result {
         match self.0 {
-            Answer::Done => write!(f, "done"),
-            Answer::Gave(word) => {
-                let word = WordText(word);
-                write!(f, "{word}")
+            Ok(Reply::Done) => f.write_str("done"),
+            Ok(Reply::Gave(word)) => write!(f, "{}", WordText(word)),
+            Ok(Reply::Merged(Some(word))) => write!(f, "over {}", WordText(word)),
+            Ok(Reply::Merged(None)) => f.write_str("over no word"),
+            Ok(Reply::LogWord(word)) => {
+                let counter = (word >> 24) % 16;
+                write!(f, "log word {word:08x} (counter {counter})")
             }
-            Answer::Merged(old) => {
-                let old = OldText(old);
-                write!(f, "{old}")
-            }
-            Answer::LogWord(number) => {
-                let counter = (number >> 24) % 16;
-                write!(f, "log word {number:08x} (counter {counter})")
-            }
-            Answer::FirstWas(first) => {
-                let first = FirstText(first);
-                write!(f, "{first}")
-            }
-            Answer::Refused(fault) => {
-                let fault = FaultText(fault);
-                write!(f, "{fault}")
-            }
+            Ok(Reply::FirstWas(Some(first))) => write!(
+                f,
+                "at {} data {:x} check {:02x}",
+                first.place, first.raw.data, first.raw.check
+            ),
+            Ok(Reply::FirstWas(None)) => f.write_str("no error"),
+            Err(fault) => write!(f, "{}", FaultText(fault)),
         }
     }
 }
 
+// What is owed to a call, if anything is.
 #[derive(Clone, Copy)]
-pub struct DueText(pub Due);
+pub struct DueText(pub Option<Due>);
 
 impl fmt::Display for DueText {
     fn fmt<W: fmt::Write>(&self, f: &mut fmt::Formatter<W>) -> fmt::Result {
         match self.0 {
-            Due::Nothing => write!(f, "nothing"),
-            Due::Done => write!(f, "done"),
-            Due::Gave(word) => {
-                let word = WordText(word);
-                write!(f, "{word}")
-            }
-            Due::Merged(word) => {
-                let word = WordText(word);
-                write!(f, "over {word}")
-            }
-            Due::Refused(fault) => {
-                let fault = FaultText(fault);
-                write!(f, "{fault}")
-            }
-            Due::LogWord(Some(counter)) => write!(f, "counter {counter}"),
-            Due::LogWord(None) => write!(f, "a log word"),
+            None => f.write_str("nothing"),
+            Some(Due::This(answer)) => write!(f, "{}", AnswerText(answer)),
+            Some(Due::LogWord(Some(counter))) => write!(f, "counter {counter}"),
+            Some(Due::LogWord(None)) => f.write_str("a log word"),
         }
+    }
+}
+
+// A verdict, as it follows an answer.
+#[derive(Clone, Copy)]
+pub struct VerdictText(pub Verdict);
+
+impl fmt::Display for VerdictText {
+    fn fmt<W: fmt::Write>(&self, f: &mut fmt::Formatter<W>) -> fmt::Result {
+        f.write_str(match self.0 {
+            Verdict::Free => "",
+            Verdict::Agrees => "; agrees",
+            Verdict::Differs => "; DIFFERS",
+        })
     }
 }
 
@@ -175,13 +118,32 @@ impl fmt::Display for WatchText {
             "not in hand"
         };
         write!(f, "{hand}, upset")?;
-        let mut any = false;
-        for (cell, upset) in self.0.upset.iter().enumerate() {
-            if *upset {
-                any = true;
-                write!(f, " {cell}")?;
-            }
+        if !self.0.upset.contains(&true) {
+            return f.write_str(" none");
         }
-        if any { Ok(()) } else { write!(f, " none") }
+        for (cell, _) in self.0.upset.iter().enumerate().filter(|(_, upset)| **upset) {
+            write!(f, " {cell}")?;
+        }
+        Ok(())
+    }
+}
+
+// What is known of the place of a call, or of the log, just before the call.
+#[derive(Clone, Copy)]
+pub struct KnownText(pub Watcher, pub Call);
+
+impl fmt::Display for KnownText {
+    fn fmt<W: fmt::Write>(&self, f: &mut fmt::Formatter<W>) -> fmt::Result {
+        let watcher = self.0;
+        let Some(place) = place_named(self.1) else {
+            return match watcher.errors_met {
+                Some(errors) => write!(f, "all readings in hand, errors met {errors}"),
+                None => f.write_str("a reading was not in hand"),
+            };
+        };
+        match watcher.watch(place) {
+            Some(watch) => write!(f, "{}", WatchText(watch)),
+            None => f.write_str("not watched"),
+        }
     }
 }

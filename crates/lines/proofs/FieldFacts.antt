@@ -1,52 +1,31 @@
 -- A blank and a field at the front of a text. Assumes nothing.
-use Rattle.std.proofs.Common.{◌≡◌, ℕ, suc, ◌+◌, ◌-◌, ◌<◌, ◌≤◌, true, false, eqb, List, [], ◌∷◌, ◌++◌, length, get_or, take, drop, sym, refl, ap, ◌∙◌, arith, length-append, length-drop, take-append-drop}
-use Rattle.std.proofs.lemmas.Slice.{first_rest}
-use Rattle.std.proofs.lemmas.List.{take_rest, append-nil}
-use Rattle.std.proofs.lemmas.Bool.{eqb-true, eqb-false}
+use Rattle.std.proofs.Common.{◌≡◌, ℕ, suc, ◌-◌, ◌*◌, ◌^◌, ◌<◌, Bool, eqb, List, [], ◌∷◌, ◌++◌, length, take, drop, sym, refl, ap, ◌∙◌, arith, MatchOption}
+use Rattle.std.specs.Bool.{then_some}
+use Rattle.std.proofs.lemmas.List.{take_all, take_at, drop_at, append-nil}
+use Rattle.std.proofs.lemmas.Bool.{ne_eqb}
+use Rattle.lines.specs.Texts.{field}
+use Rattle.lines.specs.declared.commands.Field.{Field}
+use Rattle.lines.proofs.HexFacts.{length_hex}
 
-pub blank_first : (xs : List ℕ) → 0 < length xs → get_or xs 0 0 ≡ 32 → xs ≡ 32 ∷ take (length xs - 1) (drop 1 xs)
-blank_first xs h e = first_rest xs 0 h ∙ ap (λ b. b ∷ take (length xs - 1) (drop 1 xs)) e
-
-pub field_first : (xs : List ℕ) (k : ℕ) (f t : List ℕ) → 0 < length xs → get_or xs 0 0 ≡ 32 →
-    f ≡ take k (take (length xs - 1) (drop 1 xs)) → t ≡ drop k (take (length xs - 1) (drop 1 xs)) → xs ≡ 32 ∷ f ++ t
-field_first xs k f t h e ef et =
-    blank_first xs h e ∙ ap (λ l. 32 ∷ l) (sym (take-append-drop k (take (length xs - 1) (drop 1 xs))) ∙ ap (λ l. l ++ drop k (take (length xs - 1) (drop 1 xs))) (sym ef) ∙ ap (λ l. f ++ l) (sym et))
-
--- what a text with a field at its front shows
-pub no_field : (xs f t : List ℕ) → xs ≡ 32 ∷ f ++ t → (get_or xs 0 0 ≡ 32) × (length f ≤ length (take (length xs - 1) (drop 1 xs))) × (1 ≤ length xs)
-no_field xs f t e =
-    let l : length (take (length xs - 1) (drop 1 xs)) ≡ length xs - 1 = ap length (take_rest xs 1) ∙ simp length-drop in
-    let n : length xs ≡ suc (length f + length t) = ap length e ∙ ap suc (length-append f t) in
-    (ap (λ ys. get_or ys 0 0) e, omega arith, omega arith)
+-- what stands behind the first byte
+pub rest_is : (xs r : List ℕ) (b : ℕ) → xs ≡ b ∷ r → take (length xs - 1) (drop 1 xs) ≡ r
+rest_is xs r b e = ap (λ ys. take (length ys - 1) (drop 1 ys)) e ∙ take_all _ r (omega arith)
 
 -- fronts of one length, and what follows them
-pub append_same : (a b s t : List ℕ) → length a ≡ length b → a ++ s ≡ b ++ t → (a ≡ b) × (s ≡ t)
-append_same [] [] s t l e = (refl, e)
-append_same [] (y ∷ b) s t l e = absurd (omega arith)
-append_same (x ∷ a) [] s t l e = absurd (omega arith)
-append_same (x ∷ a) (y ∷ b) s t l e =
-    let head : x ≡ y = cc in
-    let tail : a ++ s ≡ b ++ t = cc in
-    let more = append_same a b s t (omega arith) tail in
-    let front = more.0 in
-    (cc, more.1)
+pub cut_same : (a b s t : List ℕ) → length a ≡ length b → a ++ s ≡ b ++ t → (a ≡ b) × (s ≡ t)
+cut_same a b s t l e = (
+  sym (take_at a s (length a) refl) ∙ ap (take (length a)) e ∙ take_at b t (length a) (sym l),
+  sym (drop_at a s (length a) refl) ∙ ap (drop (length a)) e ∙ drop_at b t (length a) (sym l),
+)
 
--- one field and what follows it, known in two ways
-pub field_same : (xs a b s t : List ℕ) (k : ℕ) → length a ≡ k → length b ≡ k → xs ≡ 32 ∷ a ++ s → xs ≡ 32 ∷ b ++ t → (a ≡ b) × (s ≡ t)
-field_same xs a b s t k la lb e f =
-    let both = sym e ∙ f in
-    let tails : a ++ s ≡ b ++ t = cc in
-    append_same a b s t (la ∙ sym lb) tails
+-- what follows a field that was cut off, known in two ways
+pub rest_same : {k : ℕ} (f : Field k) (u : ℕ) (xs s t : List ℕ) → xs ≡ (32 ∷ f.text.now) ++ s → xs ≡ field k u ++ t → s ≡ t
+rest_same {k} f u xs s t a b =
+    (cut_same (32 ∷ f.text.now) (field k u) s t (ap suc (ap length f.spelled ∙ length_hex k f.number ∙ sym (length_hex k u))) (sym a ∙ b)).1
 
--- a last field has nothing after it
-pub last_is : (xs a r : List ℕ) → eqb (length r) 0 ≡ true → xs ≡ 32 ∷ a ++ r → xs ≡ 32 ∷ a
-last_is xs a [] t e = e ∙ ap (λ l. 32 ∷ l) (append-nil a)
-last_is xs a (y ∷ r) t e = let z = eqb-true (length (y ∷ r)) 0 t in absurd (omega arith)
-
-pub with_nothing : (xs a : List ℕ) → xs ≡ 32 ∷ a → xs ≡ 32 ∷ a ++ []
-with_nothing xs a e = e ∙ ap (λ l. 32 ∷ l) (sym (append-nil a))
-
-pub last_only : (xs a b r : List ℕ) (k : ℕ) → length a ≡ k → length b ≡ k → eqb (length r) 0 ≡ false → xs ≡ 32 ∷ a ++ r → xs ≡ 32 ∷ b → ⊥
-last_only xs a b r k la lb t e f =
-    let none : r ≡ [] = (field_same xs a b r [] k la lb e (with_nothing xs b f)).1 in
-    eqb-false (length r) 0 t (ap length none)
+-- a field that was cut off is all there is, or there is more than one field
+pub only_field : {k : ℕ} (f : Field k) (xs r : List ℕ) (b : Bool) → b ≡ eqb (length r) 0 → xs ≡ (32 ∷ f.text.now) ++ r →
+    MatchOption (then_some b f) ((v : ℕ) → v < 2 ^ (4 * k) → xs ≡ field k v → ⊥) (λ g. xs ≡ 32 ∷ g.text.now)
+only_field f xs [] b e cut = rw e (cut ∙ append-nil (32 ∷ f.text.now))
+only_field {k} f xs (y ∷ r) b e cut =
+    rw (e ∙ ne_eqb (length (y ∷ r)) 0 (λ z. absurd (omega arith))) (λ v h is. let more = rest_same f v xs (y ∷ r) [] cut (is ∙ sym (append-nil (field k v))) in cc)

@@ -1,11 +1,11 @@
 -- Numbers and their hexadecimal digits. Assumes nothing.
-use Rattle.std.proofs.Common.{◌≡◌, ℕ, zero, suc, ◌+◌, ◌-◌, ◌*◌, ◌/◌, ◌%◌, ◌^◌, ◌<◌, ◌≤◌, ltb, ◌⊎◌, List, [], ◌∷◌, ◌++◌, length, get_or, take, Some, None, Option, sym, refl, ap, ◌∙◌, subst, inl, inr, ⊎_elim, lt_of_lt_of_le, mod-eq_of_lt, arith, pow_mono, pow-add, shr-shr}
+use Rattle.std.proofs.Common.{◌≡◌, ℕ, zero, suc, ◌+◌, ◌*◌, ◌/◌, ◌%◌, ◌^◌, ◌<◌, ◌≤◌, List, [], ◌∷◌, ◌++◌, length, get_or, take, sym, refl, ap, ◌∙◌, subst, mod-eq_of_lt, arith, pow_mono, pow-add, shr-shr}
 use native.Mathlib.Nat.{mod-one}
 use lib.Pow.{mod-pow-add}
 use Rattle.std.proofs.lemmas.Nat.{mod_below}
 use Rattle.std.proofs.lemmas.List.{take_more, take_all}
-use Rattle.std.proofs.lemmas.Bool.{cases_lt, cond_both, cond-true, cond-false, lt-ltb, le-ltb, ltb-true, ltb-false}
-use Rattle.lines.specs.Hex.{hex_digit, digit_value, hex}
+use Rattle.std.proofs.lemmas.Bool.Decides.{nat_tests}
+use Rattle.lines.specs.Hex.{hex_digit, hex}
 
 pub length_hex : (k v : ℕ) → length (hex k v) ≡ k
 length_hex zero v = refl
@@ -33,60 +33,9 @@ hex_at zero v i h = absurd (omega arith)
 hex_at (suc k) v zero h = (v / 2 ^ (4 * k) % 16, mod_below (v / 2 ^ (4 * k)) 16 (omega arith), refl)
 hex_at (suc k) v (suc i) h = hex_at k v i (omega arith)
 
--- a digit's character is its number and 48, or from ten on its number and 87
-digit_ways : (d : ℕ) → ((d < 10) × (hex_digit d ≡ 48 + d)) ⊎ ((10 ≤ d) × (hex_digit d ≡ 87 + d))
-digit_ways d =
-    ⊎_elim
-    (λ l. inl (l, cond-true _ _ _ (lt-ltb d 10 l)))
-    (λ g. inr (g, cond-false _ _ _ (le-ltb d 10 g)))
-    (cases_lt d 10)
-
--- the character of a digit tells it
-digit_told : (d : ℕ) → d < 16 → digit_value (hex_digit d) ≡ Some d
-digit_told d h =
-    ⊎_elim
-    (λ x.
-    let l = x.0 in
-    let e : 48 + d - 48 ≡ d = omega arith in
-    ap digit_value x.1 ∙ cond-false _ _ _ (le-ltb (48 + d) 48 (omega arith)) ∙ cond-true _ _ _ (lt-ltb (48 + d) 58 (omega arith)) ∙ ap Some e)
-    (λ x.
-    let g = x.0 in
-    let e : 87 + d - 87 ≡ d = omega arith in
-    ap digit_value x.1 ∙ cond-false _ _ _ (le-ltb (87 + d) 48 (omega arith)) ∙ cond-false _ _ _ (le-ltb (87 + d) 58 (omega arith)) ∙
-    cond-false _ _ _ (le-ltb (87 + d) 97 (omega arith)) ∙ cond-true _ _ _ (lt-ltb (87 + d) 103 (omega arith)) ∙ ap Some e)
-    (digit_ways d)
-
--- a character that is no digit's
-pub digit_none : (b : ℕ) → None ≡ digit_value b → (d : ℕ) → d < 16 → b ≡ hex_digit d → ⊥
-digit_none b e d h is = let f : None ≡ Some d = e ∙ ap digit_value is ∙ digit_told d h in let z : ◌≡◌ {A = ℕ} 0 1 = cc in omega arith
-
--- a character that is a digit's
-pub digit_some : (b d : ℕ) → Some d ≡ digit_value b → (d < 16) × (b ≡ hex_digit d)
-digit_some b d =
-    let P : Option ℕ → Type 0 = λ x. Some d ≡ x → (d < 16) × (b ≡ hex_digit d) in
-    let never : P None = λ e. let z : ◌≡◌ {A = ℕ} 0 1 = cc in absurd (omega arith) in
-    cond_both (ltb b 48) _ _ P (λ _. never)
-    (λ g. cond_both (ltb b 58) _ _ P
-    (λ l e.
-    let from = ltb-false b 48 g in
-    let to = ltb-true b 58 l in
-    let is : d ≡ b - 48 = cc in
-    (omega arith, (let c : b ≡ 48 + d = omega arith in c) ∙ sym (cond-true _ _ _ (lt-ltb d 10 (omega arith)))))
-    (λ _. cond_both (ltb b 97) _ _ P (λ _. never)
-    (λ g'. cond_both (ltb b 103) _ _ P
-    (λ l e.
-    let from = ltb-false b 97 g' in
-    let to = ltb-true b 103 l in
-    let is : d ≡ b - 87 = cc in
-    (omega arith, (let c : b ≡ 87 + d = omega arith in c) ∙ sym (cond-false _ _ _ (le-ltb d 10 (omega arith)))))
-    (λ _. never))))
-
+-- two digits of one character are one
 digit_apart : (a b : ℕ) → a < 16 → b < 16 → hex_digit a ≡ hex_digit b → a ≡ b
-digit_apart a b h k e =
-    ⊎_elim
-    (λ x. ⊎_elim (λ y. let p = x.1 in let q = y.1 in omega arith) (λ y. let l = x.0 in let g = y.0 in let p = x.1 in let q = y.1 in absurd (omega arith)) (digit_ways b))
-    (λ x. ⊎_elim (λ y. let g = x.0 in let l = y.0 in let p = x.1 in let q = y.1 in absurd (omega arith)) (λ y. let p = x.1 in let q = y.1 in omega arith) (digit_ways b))
-    (digit_ways a)
+digit_apart a b h k e = grind (arith, nat_tests)
 
 head_same : {a b : ℕ} {xs ys : List ℕ} → a ∷ xs ≡ b ∷ ys → (a ≡ b) × (xs ≡ ys)
 head_same e = (cc, cc)
@@ -108,13 +57,13 @@ pub hex_told : (k v u : ℕ) → v < 2 ^ (4 * k) → u < 2 ^ (4 * k) → hex k v
 hex_told k v u h b e = sym (mod-eq_of_lt h) ∙ hex_apart k v u e ∙ mod-eq_of_lt b
 
 -- a number of fewer than sixteen digits has room for one more in 64 bits
-pub room_for_digit : (i v : ℕ) → i < 16 → v < 2 ^ (4 * i) → v < 2 ^ 60
-room_for_digit i v h b = let four : 4 * i ≤ 60 = omega arith in lt_of_lt_of_le b (pow_mono four)
+pub room_for_digit : (i : ℕ) → i < 16 → 2 ^ (4 * i) ≤ 2 ^ 60
+room_for_digit i h = pow_mono (let four : 4 * i ≤ 60 = omega arith in four)
 
 -- a list that shows a byte which is no digit's is no number's
-pub no_number : (xs : List ℕ) (i : ℕ) → i < length xs → ((d : ℕ) → d < 16 → get_or xs i 0 ≡ hex_digit d → ⊥) → (v : ℕ) → xs ≡ hex (length xs) v → ⊥
-no_number xs i h never v e =
-    let some = hex_at (length xs) v i h in
+pub no_number : (xs : List ℕ) (k i : ℕ) → i < k → ((d : ℕ) → d < 16 → get_or xs i 0 ≡ hex_digit d → ⊥) → (v : ℕ) → xs ≡ hex k v → ⊥
+no_number xs k i h never v e =
+    let some = hex_at k v i h in
     never some.0 some.1 (ap (λ l. get_or l i 0) e ∙ some.2)
 
 -- one digit more was read
@@ -127,6 +76,7 @@ number_more xs i v d h b e below read =
     )
 
 -- all digits were read
-pub number_all : (xs : List ℕ) (i v : ℕ) → i ≡ length xs → v < 2 ^ (4 * i) → take i xs ≡ hex i v → (v < 2 ^ (4 * length xs)) × (xs ≡ hex (length xs) v)
-number_all xs i v e below read =
-    (subst (λ n. v < 2 ^ (4 * n)) e below, sym (take_all (length xs) xs (omega arith)) ∙ ap (λ n. take n xs) (sym e) ∙ read ∙ ap (λ n. hex n v) e)
+pub number_all : (xs : List ℕ) (k i v : ℕ) → i ≡ length xs → length xs ≡ k → v < 2 ^ (4 * i) → take i xs ≡ hex i v → (v < 2 ^ (4 * k)) × (xs ≡ hex k v)
+number_all xs k i v e l below read =
+    let all : i ≡ k = e ∙ l in
+    (subst (λ n. v < 2 ^ (4 * n)) all below, sym (take_all i xs (omega arith)) ∙ read ∙ ap (λ n. hex n v) all)

@@ -1,13 +1,14 @@
 -- No two calls share a text. Assumes nothing.
-use Rattle.std.proofs.Common.{◌≡◌, ℕ, ◌*◌, ◌^◌, ◌<◌, List, ◌++◌, sym, ap, ◌∙◌, rules}
+use Rattle.std.proofs.Common.{◌≡◌, ℕ, ◌*◌, ◌^◌, ◌<◌, List, ◌++◌, Some, None, Option, MatchOption, IsSomeAnd, sym, ap, ◌∙◌, subst, rules}
 use Rattle.unit.specs.declared.calls.Call.{Call}
 use Rattle.unit.specs.declared.calls.Call.TheVariants.{Read, Write, Merge, Scrub, Inject, Log, First, Clear}
 use Rattle.word.specs.declared.words.Word.{Word}
 use Rattle.lines.specs.Hex.{hex}
 use Rattle.lines.specs.Texts.{field, letter_of, fields_of, line_of}
-use Rattle.lines.specs.Commands.{Scripted, low_only}
+use Rattle.lines.specs.Commands.{Scripted, Parsed, command_text, low_only}
+use Rattle.lines.specs.declared.commands.Command.{Command}
 use Rattle.lines.proofs.HexFacts.{length_hex, hex_told}
-use Rattle.lines.proofs.FieldFacts.{append_same}
+use Rattle.lines.proofs.FieldFacts.{cut_same}
 
 -- the numbers of a call
 abbrev place_of : Call → ℕ
@@ -71,7 +72,7 @@ inject_is d l = (search rules, search rules)
 more_same : (k v u : ℕ) (s t : List ℕ) → v < 2 ^ (4 * k) → u < 2 ^ (4 * k) → field k v ++ s ≡ field k u ++ t → (v ≡ u) × (s ≡ t)
 more_same k v u s t hv hu e =
     let tails : hex k v ++ s ≡ hex k u ++ t = cc in
-    let both = append_same (hex k v) (hex k u) s t (length_hex k v ∙ sym (length_hex k u)) tails in
+    let both = cut_same (hex k v) (hex k u) s t (length_hex k v ∙ sym (length_hex k u)) tails in
     (hex_told k v u hv hu both.0, both.1)
 
 last_same : (k v u : ℕ) → v < 2 ^ (4 * k) → u < 2 ^ (4 * k) → field k v ≡ field k u → v ≡ u
@@ -85,31 +86,40 @@ one_text (Read p) d s t e =
     let r = read_is d (cc) in
     let fields : field 4 p ≡ fields_of d = cc in
     let place = last_same 4 p (place_of d) s (place_below d t) (fields ∙ r.0) in
-    r.1 ∙ ap Read (sym place)
+    cc
 one_text (Write p w) d s t e =
     let r = write_is d t (cc) in
     let fields : fields_of (Write p w) ≡ fields_of d = cc in
     let first = more_same 4 p (place_of d) _ _ s.0 (place_below d t) (fields ∙ r.0) in
-    let word = last_same 16 w.low (low_of d) s.1 (low_below d t) first.1 in
-    r.1 ∙ ap (λ x. Write x (low_only (low_of d))) (sym first.0) ∙ ap (Write p) (word_same w (low_of d) word s.2)
+    let word = word_same w (low_of d) (last_same 16 w.low (low_of d) s.1 (low_below d t) first.1) s.2 in
+    cc
 one_text (Merge p w n) d s t e =
     let r = merge_is d t (cc) in
     let fields : fields_of (Merge p w n) ≡ fields_of d = cc in
     let first = more_same 4 p (place_of d) _ _ s.0 (place_below d t) (fields ∙ r.0) in
     let second = more_same 2 n (byte_of d) _ _ s.3 (byte_below d t) first.1 in
-    let word = last_same 16 w.low (low_of d) s.1 (low_below d t) second.1 in
-    r.1 ∙ ap (λ x. Merge x (low_only (low_of d)) (byte_of d)) (sym first.0) ∙ ap (λ x. Merge p x (byte_of d)) (word_same w (low_of d) word s.2) ∙ ap (Merge p w) (sym second.0)
+    let word = word_same w (low_of d) (last_same 16 w.low (low_of d) s.1 (low_below d t) second.1) s.2 in
+    cc
 one_text (Scrub p) d s t e =
     let r = scrub_is d (cc) in
     let fields : field 4 p ≡ fields_of d = cc in
     let place = last_same 4 p (place_of d) s (place_below d t) (fields ∙ r.0) in
-    r.1 ∙ ap Scrub (sym place)
+    cc
 one_text (Inject p x) d s t e =
     let r = inject_is d (cc) in
     let fields : fields_of (Inject p x) ≡ fields_of d = cc in
     let first = more_same 4 p (place_of d) _ _ s.0 (place_below d t) (fields ∙ r.0) in
     let cell = last_same 2 x (byte_of d) s.1 (byte_below d t) first.1 in
-    r.1 ∙ ap (λ y. Inject y (byte_of d)) (sym first.0) ∙ ap (Inject p) (sym cell)
+    cc
 one_text Log d s t e = search rules
 one_text First d s t e = search rules
 one_text Clear d s t e = search rules
+
+-- what the line of a command asks for
+pub parsed_from : (line : List ℕ) (d : Option Command) (r : Option Call) → MatchOption d ((c : Call) → Scripted c → line ≡ line_of c → ⊥) (λ x. line ≡ command_text x) →
+    MatchOption d (r ≡ None) (λ x. IsSomeAnd r (λ c. Scripted c × (command_text x ≡ line_of c))) → Parsed line r
+parsed_from line None r never e = subst (Parsed line) (sym e) never
+parsed_from line (Some d) None told asked = absurd asked
+parsed_from line (Some d) (Some c) told asked =
+    let text = told ∙ asked.1 in
+    record { fits = asked.0; text = text; only = λ k s e. one_text c k asked.0 s (sym text ∙ e) }

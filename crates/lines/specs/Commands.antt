@@ -1,17 +1,11 @@
 -- Commands as text. Assumes nothing.
-use Rattle.std.specs.Prelude.{◌≡◌, ℕ, ◌*◌, ◌^◌, ◌<◌, List, [], ◌∷◌, ◌++◌, Some, None, Option, ◌≢◌}
+use Rattle.std.specs.Prelude.{◌≡◌, ℕ, ◌^◌, ◌<◌, List, [], ◌∷◌, ◌++◌, Some, None, Option, ◌≢◌}
 use Rattle.word.specs.declared.words.Word.{Word}
 use Rattle.unit.specs.declared.calls.Call.{Call}
 use Rattle.unit.specs.declared.calls.Call.TheVariants as call
-use Rattle.lines.specs.Hex.{hex}
 use Rattle.lines.specs.Texts.{line_of}
-use Rattle.lines.specs.declared.commands.Field.{Field}
 use Rattle.lines.specs.declared.commands.Command.{Command}
 use Rattle.lines.specs.declared.commands.Command.TheVariants.{Read, Write, Merge, Scrub, Inject, Log, First, Clear}
-
--- a field of k digits spells its number
-abbrev pub Spells : ℕ → Field → Type 0
-Spells k f = (f.number < 2 ^ (4 * k)) × (f.text.now ≡ hex k f.number)
 
 -- the text that a command was cut from
 abbrev pub command_text : Command → List ℕ
@@ -23,17 +17,6 @@ command_text (Inject p x) = 73 ∷ (32 ∷ p.text.now) ++ (32 ∷ x.text.now)
 command_text Log = 76 ∷ []
 command_text First = 70 ∷ []
 command_text Clear = 67 ∷ []
-
--- each field has its length: a place 4 digits, a word 16, enables and a cell 2
-abbrev pub Shaped : Command → Type 0
-Shaped (Read p) = Spells 4 p
-Shaped (Write p w) = Spells 4 p × Spells 16 w
-Shaped (Merge p e w) = Spells 4 p × Spells 2 e × Spells 16 w
-Shaped (Scrub p) = Spells 4 p
-Shaped (Inject p x) = Spells 4 p × Spells 2 x
-Shaped Log = Unit {0}
-Shaped First = Unit {0}
-Shaped Clear = Unit {0}
 
 -- a word of 64 bits
 abbrev pub low_only : ℕ → Word

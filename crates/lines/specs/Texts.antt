@@ -1,12 +1,13 @@
 -- The text of each call, and the text of each answer. Assumes nothing.
-use Rattle.std.specs.Prelude.{ℕ, List, [], ◌∷◌, ◌++◌, Some, None, Option}
+use Rattle.std.specs.Prelude.{ℕ, List, [], ◌∷◌, ◌++◌, Some, None, Ok, Err, Option}
 use Rattle.word.specs.Faults.{number_of}
 use Rattle.word.specs.declared.faults.Fault.{Fault}
 use Rattle.error_log.specs.declared.records.FirstError.{FirstError}
 use Rattle.unit.specs.declared.calls.Call.{Call}
 use Rattle.unit.specs.declared.calls.Call.TheVariants.{Read, Write, Merge, Scrub, Inject, Log, First, Clear}
-use Rattle.unit.specs.declared.calls.Answer.{Answer}
-use Rattle.unit.specs.declared.calls.Answer.TheVariants.{Done, Gave, Merged, LogWord, FirstWas, Refused}
+use Rattle.unit.specs.Steps.{Answer}
+use Rattle.unit.specs.declared.calls.Reply.{Reply}
+use Rattle.unit.specs.declared.calls.Reply.TheVariants.{Done, Gave, Merged, LogWord, FirstWas}
 use Rattle.lines.specs.Hex.{hex}
 
 -- a field: one blank, then the k digits of a number
@@ -59,11 +60,15 @@ abbrev pub first_text : Option FirstError → List ℕ
 first_text None = none_text
 first_text (Some e) = first_line e
 
+-- the line that shows what a granted call gives
+abbrev pub reply_text : Reply → List ℕ
+reply_text Done = ok_text
+reply_text (Gave w) = 61 ∷ field 16 w.low ++ (10 ∷ [])
+reply_text (Merged o) = ok_text
+reply_text (LogWord v) = 61 ∷ field 8 v ++ (10 ∷ [])
+reply_text (FirstWas o) = first_text o
+
 -- the line that shows an answer, with the 0A that ends it
 abbrev pub answer_text : Answer → List ℕ
-answer_text Done = ok_text
-answer_text (Gave w) = 61 ∷ field 16 w.low ++ (10 ∷ [])
-answer_text (Merged o) = ok_text
-answer_text (LogWord v) = 61 ∷ field 8 v ++ (10 ∷ [])
-answer_text (FirstWas o) = first_text o
-answer_text (Refused f) = fault_text f
+answer_text (Ok reply) = reply_text reply
+answer_text (Err fault) = fault_text fault

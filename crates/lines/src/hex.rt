@@ -14,14 +14,15 @@ fn digit(byte: u8) -> Option<u8>
     }
 }
 
-// The number of a field of at most sixteen digits.
-pub(crate) fn number(field: &[u8]) -> Option<u64>
-    requires { length field.now ≤ 16 }
-    ensures { MatchOption result ((v : ℕ) → v < 2 ^ (4 * length field.now) → field.now ≢ hex (length field.now) v) (λ v. (v < 2 ^ (4 * length field.now)) × (field.now ≡ hex (length field.now) v)) }
+// The number that a field of at most sixteen digits spells.
+#[tactic(auto, using(crate::proofs::HexFacts::room_for_digit))]
+pub(crate) fn number<const DIGITS: usize>(text: &[u8; DIGITS]) -> Option<u64>
+    requires { DIGITS ≤ 16 }
+    ensures { MatchOption result ((v : ℕ) → v < 2 ^ (4 * DIGITS) → text.now ≢ hex DIGITS v) (λ v. (v < 2 ^ (4 * DIGITS)) × (text.now ≡ hex DIGITS v)) }
 {
-    let mut value = 0u64;
-    for byte in field {
-        value = value * 16 + digit(*byte)? as u64;
+    let mut value = 0;
+    for byte in text {
+        value = value * 16 + u64::from(digit(*byte)?);
     }
     Some(value)
 }

@@ -1,10 +1,11 @@
 -- What is known of merged lanes, over any number of them. Assumes nothing.
-use Rattle.std.proofs.Common.{◌≡◌, ℕ, zero, suc, ◌+◌, ◌-◌, ◌*◌, ◌/◌, ◌%◌, ◌^◌, ◌<◌, ◌≤◌, true, false, sym, refl, ap, ◌∙◌, lt_of_lt_of_le, mod-eq_of_lt, mul_comm, mul-zero, arith, pow_pos, pow_mono, pow-add}
-use native.Mathlib.Nat.{div-eq_of_lt, zero-div, mod-one}
-use lib.Pow.{mod-pow-add, high, ones_split, ones_lt}
+use Rattle.std.proofs.Common.{◌≡◌, ℕ, zero, suc, ◌+◌, ◌-◌, ◌*◌, ◌/◌, ◌%◌, ◌^◌, ◌<◌, ◌≤◌, true, false, sym, ap, ◌∙◌, lt_of_lt_of_le, mod-eq_of_lt, mul_comm, mul-zero, arith, pow_pos, pow_mono, pow-add}
+use native.Mathlib.Nat.{div-eq_of_lt, zero-div}
+use lib.Pow.{high, ones_split, ones_lt}
 use Rattle.std.proofs.lemmas.Nat.{mod_below, mul-add-lt}
 use Rattle.std.proofs.lemmas.Bool.{cond_both, cond-true, cond-false, eq-eqb, ne_eqb}
 use Rattle.word.specs.Lanes.{lane, lane_sum}
+use Rattle.word.proofs.LaneFacts.{lane_sum_same, lanes_whole}
 use Rattle.parts.specs.Merges.{bit, merged_lane, joined}
 
 -- one lane more
@@ -31,23 +32,8 @@ lane_sum_short (suc k) m f h =
     let r = lane_sum_short k m f h in
     ap (λ n. lane_sum n f) e ∙ omega arith
 
-lane_sum_same : (m : ℕ) (f g : ℕ → ℕ) → ((j : ℕ) → j < m → f j ≡ g j) → lane_sum m f ≡ lane_sum m g
-lane_sum_same zero f g h = refl
-lane_sum_same (suc m) f g h =
-    ap (λ x. x + 2 ^ (8 * m) * f m) (lane_sum_same m f g (λ j b. h j (omega arith))) ∙ ap (λ x. lane_sum m g + 2 ^ (8 * m) * x) (h m (omega arith))
-
--- the lanes of a number put together again
-pub lanes_whole : (m v : ℕ) → lane_sum m (λ j. lane j v) ≡ v % 2 ^ (8 * m)
-lanes_whole zero v = sym (mod-one v)
-lanes_whole (suc m) v =
-    let r = lanes_whole m v in
-    let s = mod-pow-add v 8 (8 * m) in
-    let q = mul_comm (lane m v) (2 ^ (8 * m)) in
-    let e : v % 2 ^ (8 + 8 * m) ≡ v % 2 ^ (8 * suc m) = ap (λ x. v % 2 ^ x) (eight_more m) in
-    omega arith
-
-lane_below : (j v : ℕ) → lane j v < 256
-lane_below j v = mod_below (v / 2 ^ (8 * j)) 256 (omega arith)
+byte_below : (j v : ℕ) → lane j v < 256
+byte_below j v = mod_below (v / 2 ^ (8 * j)) 256 (omega arith)
 
 -- a number below 2 ^ (8 m) has no lane from the m-th on
 lane_past : (m v j : ℕ) → v < 2 ^ (8 * m) → m ≤ j → lane j v ≡ 0
@@ -57,7 +43,7 @@ lane_past m v j h b =
 
 module _ (e old new : ℕ) where
   merged_below : (j : ℕ) → merged_lane e old new j < 256
-  merged_below j = cond_both (bit j e) _ _ (λ x. x < 256) (λ _. lane_below j old) (λ _. lane_below j new)
+  merged_below j = cond_both (bit j e) _ _ (λ x. x < 256) (λ _. byte_below j old) (λ _. byte_below j new)
 
   pub joined_below : (m : ℕ) → joined m e old new < 2 ^ (8 * m)
   joined_below m = lane_sum_below m (merged_lane e old new) merged_below

@@ -1,9 +1,10 @@
 -- A unit over a lawful card, with a lawful code, is a lawful card. Assumes nothing.
-use Rattle.std.proofs.Common.{◌≡◌, ℕ, ◌+◌, ◌^◌, ◌<◌, ◌≤◌, cond, eqb, refl, ap, ◌∙◌, subst, ⊎_elim, arith}
-use Rattle.std.proofs.lemmas.Bool.{cond_both, cases_Bool, cond-true, cond-false, eqb-true}
+use Rattle.std.proofs.Common.{◌≡◌, ℕ, ◌+◌, ◌^◌, ◌<◌, ◌≤◌, cond, eqb, refl, ap, ◌∙◌, subst, arith}
+use Rattle.std.proofs.lemmas.Bool.{cond_both, eqb-true}
 use Rattle.code.specs.Codes.{CodeModel, CodeLaws, codeword}
 use Rattle.card.specs.Cards.{CardModel, CardLaws, Within}
 use Rattle.parts.specs.Units.{UnitState, unit_card, unit_entry}
+use Rattle.card.specs.WidthFacts.{place_from}
 use Rattle.code.proofs.Distances.{codeword_below}
 use Rattle.parts.proofs.CodeFacts.{entry_within, entry_codeword}
 
@@ -11,11 +12,8 @@ module _ (c : CodeModel) (m : CardModel) where
   -- a unit that has a place fits the card below, which has that place too
   pub fits_from_place : (s : UnitState m.State) (p : ℕ) → p < (unit_card c m).count s → (m.width s.card ≡ c.n + c.k) × (p < m.count s.card)
   fits_from_place s p h =
-      let t = eqb (m.width s.card) (c.n + c.k) in
-      ⊎_elim
-      (λ e. (eqb-true _ _ e, subst (λ n. p < n) (cond-true t _ _ e) h))
-      (λ e. let none : p < 0 = subst (λ n. p < n) (cond-false t _ _ e) h in absurd (omega arith))
-      (cases_Bool t)
+      let both = place_from (eqb (m.width s.card) (c.n + c.k)) (m.count s.card) p h in
+      (eqb-true _ _ both.0, both.1)
 
 module _ (c : CodeModel) (m : CardModel) (cl : CodeLaws c) (ml : CardLaws m) where
   unit_few : (s : UnitState m.State) → (unit_card c m).count s ≤ 65536

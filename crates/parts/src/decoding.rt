@@ -3,10 +3,9 @@ ghost use Rattle.std.specs.Prelude.{◌≡◌, ◌+◌, ◌^◌, ◌<◌};
 ghost use Rattle.word.specs.Words.{value, of_value};
 ghost use Rattle.code.specs.Codes.{generated, codeword};
 ghost use Rattle.card.specs.Cards.{holds, shown};
-ghost use Rattle.error_log.specs.Logs.{log_of};
 ghost use Rattle.parts.specs.Units.{cut, unit_entry, logged};
 
-use code::{Code, correct, syndrome_of};
+use code::Code;
 use error_log::{Log, RawWord};
 use word::{Fault, Word};
 
@@ -14,8 +13,7 @@ use word::{Fault, Word};
 fn check_word<C: Code>(code: &C, data: u64) -> Word
     ensures { result ≡ record { low = generated C.Code.code «data»; top = 0 } }
 {
-    let low = code.generate(data) as u64;
-    Word { low, top: 0 }
+    Word::from(code.generate(data) as u64)
 }
 
 // The raw word of some data with its check bits.
@@ -23,8 +21,7 @@ pub(crate) fn lay<C: Code>(code: &C, data: u64) -> Word
     requires { «data» < 2 ^ C.Code.code.n }
     ensures { result ≡ of_value (codeword C.Code.code «data») }
 {
-    let low = Word { low: data, top: 0 };
-    Word::join(low, check_word(code, data), code.data_width())
+    Word::join(Word::from(data), check_word(code, data), code.data_width())
 }
 
 // A raw word cut into its data and its check bits.
@@ -43,21 +40,16 @@ fn cut_raw<C: Code>(code: &C, raw: Word) -> RawWord
 pub(crate) fn take<C: Code>(code: &C, log: &mut Log, place: u16, raw: Word) -> Result<Word, Fault>
     requires { value raw < 2 ^ (C.Code.code.n + C.Code.code.k) }
     ensures answer { result ≡ shown (unit_entry C.Code.code place (holds (value raw))) }
-    ensures after { log_of log.new ≡ logged C.Code.code place (holds (value raw)) (log_of log.old) }
+    ensures after { log.new ≡ logged C.Code.code place (holds (value raw)) log.old }
 {
     let parts = cut_raw(code, raw);
-    let syndrome = syndrome_of(code, parts.data, parts.check);
+    let syndrome = code.syndrome_of(parts.data, parts.check);
     if syndrome == 0 {
         log.note(place, parts, syndrome, false);
-        return Ok(Word {
-            low: parts.data,
-            top: 0,
-        });
+        return Ok(Word::from(parts.data));
     }
-    let decoded = correct(code, parts.data, syndrome);
+    let decoded = code.correct(parts.data, syndrome);
     log.note(place, parts, syndrome, decoded.is_err());
-    match decoded {
-        Ok(data) => Ok(Word { low: data, top: 0 }),
-        Err(refusal) => Err(Fault::arise(refusal, place)),
-    }
+    let data = decoded.map_err(|refusal| Fault::arise(refusal, place))?;
+    Ok(Word::from(data))
 }

@@ -2,14 +2,14 @@
 ghost use Rattle.std.specs.Prelude.{◌≡◌};
 ghost use Rattle.word.specs.Words.{value};
 ghost use Rattle.card.specs.Cards.{read_answer, read_state, write_answer, write_state};
-ghost use Rattle.error_log.specs.Logs.{log_of, new_log, log_word};
+ghost use Rattle.error_log.specs.Logs.{new_log, log_word};
 ghost use Rattle.parts.specs.Units.{unit_card};
 
 use crate::decoding::{lay, take};
 use card::Card;
 use code::Code;
 use error_log::Log;
-use word::{Fault, Refusal, Word};
+use word::{Fault, Word, check_place, check_width};
 
 // How many places a unit has over this card: all of them where its raw words fit, else none.
 pub fn places<C: Code, D: Card>(code: &C, card: &D) -> u32
@@ -29,17 +29,13 @@ pub fn read_over<C: Code, D: Card>(
     log: &mut Log,
     place: u16,
 ) -> Result<Word, Fault>
-    ensures answer { result ≡ read_answer (unit_card C.Code.code D.Card.model) (record { log = log_of log.entry.now; card = D.Card.state card.old }) place }
-    ensures noted { log_of log.exit.now ≡ (read_state (unit_card C.Code.code D.Card.model) (record { log = log_of log.entry.now; card = D.Card.state card.old }) place).log }
-    ensures after { D.Card.state card.new ≡ (read_state (unit_card C.Code.code D.Card.model) (record { log = log_of log.entry.now; card = D.Card.state card.old }) place).card }
+    ensures answer { result ≡ read_answer (unit_card C.Code.code D.Card.model) (record { log = log.entry.now; card = D.Card.state card.old }) place }
+    ensures noted { log.exit.now ≡ (read_state (unit_card C.Code.code D.Card.model) (record { log = log.entry.now; card = D.Card.state card.old }) place).log }
+    ensures after { D.Card.state card.new ≡ (read_state (unit_card C.Code.code D.Card.model) (record { log = log.entry.now; card = D.Card.state card.old }) place).card }
 {
-    if place as u32 >= places(code, card) {
-        return Err(Fault::arise(Refusal::Place, place));
-    }
-    match card.read(place) {
-        Ok(raw) => take(code, log, place, raw),
-        Err(fault) => Err(fault.pass_up()),
-    }
+    check_place(place, places(code, card))?;
+    let raw = card.read(place).map_err(Fault::pass_up)?;
+    take(code, log, place, raw)
 }
 
 // The word at a place becomes this one, with its check bits.
@@ -52,23 +48,18 @@ pub fn write_over<C: Code, D: Card>(
     ensures answer { result ≡ write_answer (unit_card C.Code.code D.Card.model) (record { log = new_log; card = D.Card.state card.old }) place (value word) }
     ensures after { D.Card.state card.new ≡ (write_state (unit_card C.Code.code D.Card.model) (record { log = new_log; card = D.Card.state card.old }) place (value word)).card }
 {
-    if place as u32 >= places(code, card) {
-        return Err(Fault::arise(Refusal::Place, place));
-    }
-    if !word.fits(code.data_width()) {
-        return Err(Fault::arise(Refusal::Wide, place));
-    }
+    check_place(place, places(code, card))?;
+    check_width(word, code.data_width(), place)?;
     // The card below has this place and this width, so it grants the write.
     card.write(place, lay(code, word.low))
 }
 
 // The log word: kind, counter and syndrome of the latest error, then the partial and the check bits last taken.
 pub fn log_word<C: Code>(code: &C, log: &Log) -> u32
-    ensures { result ≡ log_word C.Code.code (log_of log.now) }
+    ensures { result ≡ log_word C.Code.code log.now }
 {
-    let taken = match log.taken() {
-        Some(raw) => code.partial(raw.data) as u32 * 0x100 + raw.check as u32,
-        None => 0,
-    };
+    let taken = log.taken().map_or(0, |raw| {
+        code.partial(raw.data) as u32 * 0x100 + raw.check as u32
+    });
     log.errors() as u32 * 0x1_0000 + taken
 }

@@ -15,11 +15,12 @@ use Rattle.card.proofs.CardFacts.{write_granted, write_leads}
 use Rattle.error_log.specs.Logs.{new_log}
 use Rattle.parts.specs.Merges.{joined}
 use Rattle.parts.specs.Units.{UnitState, Outcome, unit_card, unit_entry, refused, injecting, merging, kept, writing, merged, all_lanes}
-use Rattle.unit.specs.Steps.{step, done_told, merge_told}
+use Rattle.unit.specs.Steps.{step, replied}
 use Rattle.runs.specs.Histories.{Made, granted, writes, stores, hits, laid_by}
 use Rattle.unit.specs.declared.calls.Call.{Call}
 use Rattle.unit.specs.declared.calls.Call.TheVariants.{Read, Write, Merge, Scrub, Inject, Log, First, Clear}
-use Rattle.unit.specs.declared.calls.Answer.{Answer}
+use Rattle.unit.specs.Steps.{Answer}
+use Rattle.unit.specs.declared.calls.Reply.TheVariants.{Done, Merged}
 use Rattle.parts.proofs.MergeFacts.{joined_below, joined_all, joined_none}
 use Rattle.parts.proofs.UnitLaws.{fits_from_place, unit_laws}
 
@@ -162,38 +163,38 @@ module _ (c : CodeModel) (m : CardModel) (cl : CodeLaws c) (ml : CardLaws m) whe
         ⊎_elim
         (λ h. ⊎_elim
         (λ b.
-        subst (λ (y : UnitState m.State). Effect c m s.card y.card (as_made (Write p w) (done_told (write_answer (unit_card c m) s p v)))) (sym (write_leads (unit_card c m) s p h v b))
-        (store_effect (Write p w) (done_told (write_answer (unit_card c m) s p v)) p v h b (ap (λ r. granted (done_told r)) (write_granted (unit_card c m) s p h v b)) (λ q. refl) (λ q x. refl) (λ q. refl) (λ old. refl)))
+        subst (λ (y : UnitState m.State). Effect c m s.card y.card (as_made (Write p w) (replied (λ _. Done) (write_answer (unit_card c m) s p v)))) (sym (write_leads (unit_card c m) s p h v b))
+        (store_effect (Write p w) (replied (λ _. Done) (write_answer (unit_card c m) s p v)) p v h b (ap (λ r. granted (replied (λ _. Done) r)) (write_granted (unit_card c m) s p h v b)) (λ q. refl) (λ q x. refl) (λ q. refl) (λ old. refl)))
         (λ b.
         let inside = lt-ltb p (places c m s.card) h in
         let wide = le-ltb v (2 ^ c.n) b in
-        subst (λ (y : UnitState m.State). Effect c m s.card y.card (as_made (Write p w) (done_told (write_answer (unit_card c m) s p v)))) (sym (cond-true _ _ _ inside ∙ cond-false _ _ _ wide))
-        (refused_idle s.card s.card (Write p w) _ (same_self s.card) (ap (λ r. granted (done_told r)) (cond-true _ _ _ inside ∙ cond-false _ _ _ wide))))
+        subst (λ (y : UnitState m.State). Effect c m s.card y.card (as_made (Write p w) (replied (λ _. Done) (write_answer (unit_card c m) s p v)))) (sym (cond-true _ _ _ inside ∙ cond-false _ _ _ wide))
+        (refused_idle s.card s.card (Write p w) _ (same_self s.card) (ap (λ r. granted (replied (λ _. Done) r)) (cond-true _ _ _ inside ∙ cond-false _ _ _ wide))))
         (cases_lt v (2 ^ c.n)))
         (λ h.
         let outside = le-ltb p (places c m s.card) h in
-        subst (λ (y : UnitState m.State). Effect c m s.card y.card (as_made (Write p w) (done_told (write_answer (unit_card c m) s p v)))) (sym (cond-false _ _ _ outside))
-        (refused_idle s.card s.card (Write p w) _ (same_self s.card) (ap (λ r. granted (done_told r)) (cond-false _ _ _ outside))))
+        subst (λ (y : UnitState m.State). Effect c m s.card y.card (as_made (Write p w) (replied (λ _. Done) (write_answer (unit_card c m) s p v)))) (sym (cond-false _ _ _ outside))
+        (refused_idle s.card s.card (Write p w) _ (same_self s.card) (ap (λ r. granted (replied (λ _. Done) r)) (cond-false _ _ _ outside))))
         (cases_lt p (places c m s.card))
 
     -- a merge that keeps a lane, by the entry that its reading met
     keep_effect : (k : Call) (p v e : ℕ) → p < places c m s.card → ((q : ℕ) → stores q k ≡ eqb q p) → ((q x : ℕ) → hits q x k ≡ false) → ((q : ℕ) → writes q k ≡ false) →
         ((old : ℕ) → old < 2 ^ c.n → laid_by (c.n / 8) old k ≡ joined (c.n / 8) e old v) →
-        (y : Entry) → (unit_card c m).entry s p ≡ y → Effect c m s.card (merging c m s p v e y).state.card (as_made k (merge_told (merging c m s p v e y).answer))
+        (y : Entry) → (unit_card c m).entry s p ≡ y → Effect c m s.card (merging c m s p v e y).state.card (as_made k (replied Merged (merging c m s p v e y).answer))
     keep_effect k p v e h st hi wr la (holds old) is =
         let below : old < 2 ^ c.n = subst (Within c.n) is ((unit_laws c m cl ml).within s p h) in
         let b : joined (c.n / 8) e old v < 2 ^ c.n = subst (λ w. joined (c.n / 8) e old v < 2 ^ w) (sym cl.whole_lanes) (joined_below e old v (c.n / 8)) in
         stored p (joined (c.n / 8) e old v) h b (read_write_put s.card p h _ (codeword_below c cl _ b)) refl st hi (over old is (la old below) wr)
     keep_effect k p v e h st hi wr la (faulty f) is =
-        refused_idle s.card (m.after_read s.card p) k (merge_told (Err f)) (read_same s.card p h) refl
+        refused_idle s.card (m.after_read s.card p) k (replied Merged (Err f)) (read_same s.card p h) refl
 
     merge_effect : (p : ℕ) (w : Word) (e : ℕ) → Effect c m s.card (step c m s (Merge p w e)).state.card (as_made (Merge p w e) (step c m s (Merge p w e)).answer)
     merge_effect p w e =
-        merge_ways s p (value w) e (λ o _. Effect c m s.card o.state.card (as_made (Merge p w e) (merge_told o.answer)))
+        merge_ways s p (value w) e (λ o _. Effect c m s.card o.state.card (as_made (Merge p w e) (replied Merged o.answer)))
         (λ r. refused_idle s.card s.card (Merge p w e) _ (same_self s.card) refl)
         (λ h b z.
         let none = eq-eqb e 0 z in
-        store_effect (Merge p w e) (merge_told (Ok None)) p (value w) h b refl (λ q. refl) (λ q x. refl)
+        store_effect (Merge p w e) (replied Merged (Ok None)) p (value w) h b refl (λ q. refl) (λ q x. refl)
         (λ q. ap (λ t. eqb q p && t) none ∙ and_true (eqb q p))
         (λ old. ap (λ t. joined (c.n / 8) t old (value w)) z ∙ joined_none (c.n / 8) old (value w) (subst (λ t. value w < 2 ^ t) cl.whole_lanes b)))
         (λ h b l nz.
@@ -210,7 +211,7 @@ module _ (c : CodeModel) (m : CardModel) (cl : CodeLaws c) (ml : CardLaws m) whe
 
     scrub_effect : (p : ℕ) → Effect c m s.card (step c m s (Scrub p)).state.card (as_made (Scrub p) (step c m s (Scrub p)).answer)
     scrub_effect p =
-        merge_ways s p 0 (all_lanes c m) (λ o _. Effect c m s.card o.state.card (as_made (Scrub p) (merge_told o.answer)))
+        merge_ways s p 0 (all_lanes c m) (λ o _. Effect c m s.card o.state.card (as_made (Scrub p) (replied Merged o.answer)))
         (λ r. refused_idle s.card s.card (Scrub p) _ (same_self s.card) refl)
         (λ h b z. absurd (lane_some z))
         (λ h b l nz.
@@ -220,7 +221,7 @@ module _ (c : CodeModel) (m : CardModel) (cl : CodeLaws c) (ml : CardLaws m) whe
 
     -- an inject, by the entry below
     flip_effect : (p x : ℕ) → p < places c m s.card → x < c.n + c.k → (y : Entry) → m.entry s.card p ≡ y →
-        Effect c m s.card (injecting c m s p x y).state.card (as_made (Inject p x) (done_told (injecting c m s p x y).answer))
+        Effect c m s.card (injecting c m s p x y).state.card (as_made (Inject p x) (replied (λ _. Done) (injecting c m s p x y).answer))
     flip_effect p x h l (holds raw) is =
         let f = fits_from_place c m s p h in
         let below : raw < 2 ^ (c.n + c.k) = subst (λ w. raw < 2 ^ w) f.0 (subst (Within (m.width s.card)) is (ml.within s.card p f.1)) in
@@ -229,7 +230,7 @@ module _ (c : CodeModel) (m : CardModel) (cl : CodeLaws c) (ml : CardLaws m) whe
 
     inject_effect : (p x : ℕ) → Effect c m s.card (step c m s (Inject p x)).state.card (as_made (Inject p x) (step c m s (Inject p x)).answer)
     inject_effect p x =
-        let P : Outcome m.State (Result (Unit {0}) Fault) → Type 0 = λ o. Effect c m s.card o.state.card (as_made (Inject p x) (done_told o.answer)) in
+        let P : Outcome m.State (Result (Unit {0}) Fault) → Type 0 = λ o. Effect c m s.card o.state.card (as_made (Inject p x) (replied (λ _. Done) o.answer)) in
         cond_both (ltb p (places c m s.card)) _ _ P
         (λ h. cond_both (ltb x (c.n + c.k)) _ _ P
         (λ l. flip_effect p x (ltb-true _ _ h) (ltb-true _ _ l) (m.entry s.card p) refl)

@@ -1,5 +1,5 @@
 -- Each answer is the one owed, and the counter counts. Assumes nothing.
-use Rattle.std.proofs.Common.{◌≡◌, ℕ, ◌+◌, ◌/◌, ◌^◌, ◌<◌, ◌≤◌, min, cond, not, ◌&&◌, T, eqb, ltb, ◌∷◌, Some, None, Option, Result, sym, refl, ap, ◌∙◌, ⊎_elim, arith, pow_pos}
+use Rattle.std.proofs.Common.{◌≡◌, ℕ, ◌+◌, ◌/◌, ◌^◌, ◌<◌, ◌≤◌, min, cond, not, ◌&&◌, T, eqb, ltb, ◌∷◌, Some, None, Option, Ok, Err, Result, sym, refl, ap, ◌∙◌, ⊎_elim, arith, pow_pos}
 use lib.Bits.{bit_xor}
 use lib.Pow.{ones_lt}
 use Rattle.std.proofs.lemmas.Bool.{cases_eq, cond-true, cond-false, and_parts, ltb-true, lt-ltb, le-ltb, eq-eqb, ne_eqb, eqb-false, not-true}
@@ -13,13 +13,13 @@ use Rattle.card.specs.Cards.{CardModel, CardLaws, Entry, holds, faulty, shown}
 use Rattle.card.proofs.CardFacts.{read_entered}
 use Rattle.error_log.specs.Logs.{LogState, log_word}
 use Rattle.parts.specs.Units.{UnitState, Outcome, unit_card, unit_entry, cut, logged, merging, kept, merged, injecting, injected, all_lanes}
-use Rattle.unit.specs.Steps.{step, read_told, done_told, merge_told}
+use Rattle.unit.specs.Steps.{step, replied}
 use Rattle.runs.specs.Histories.{History, upset, upset_cells, is_in_hand, last_laid}
 use Rattle.runs.specs.Promises.{meets, Reads, Owed, Counts, AllInHand, MetInHand, upset_met, met_errors}
 use Rattle.unit.specs.declared.calls.Call.{Call}
 use Rattle.unit.specs.declared.calls.Call.TheVariants.{Read, Write, Merge, Scrub, Inject, Log, First, Clear}
-use Rattle.unit.specs.declared.calls.Answer.{Answer}
-use Rattle.unit.specs.declared.calls.Answer.TheVariants.{Done, Gave, Merged, Refused}
+use Rattle.unit.specs.Steps.{Answer}
+use Rattle.unit.specs.declared.calls.Reply.TheVariants.{Done, Gave, Merged}
 use Rattle.runs.proofs.Masks.{mask, struck_syndrome}
 use Rattle.runs.proofs.Pasts.{holds_true}
 use Rattle.runs.proofs.Effects.{places, lane_some}
@@ -29,7 +29,7 @@ use Rattle.runs.proofs.LogSteps.{LogStep, log_step, Fine, counter_shown, counter
 module _ (c : CodeModel) (m : CardModel) (cl : CodeLaws c) (ml : CardLaws m) (h : History) (s : UnitState m.State) (hands : Hands c m cl h s.card) where
   -- the answer to a reading of a place in hand, told by what the entry shows
   reads : (p : ℕ) (gives : Word → Answer) (a : Answer) (tell : Entry → Answer) →
-      (p < places c m s.card → a ≡ tell (unit_entry c p (m.entry s.card p))) → ((v : ℕ) → tell (holds v) ≡ gives (of_value v)) → tell (faulty (arisen TWO p)) ≡ Refused (arisen TWO p) →
+      (p < places c m s.card → a ≡ tell (unit_entry c p (m.entry s.card p))) → ((v : ℕ) → tell (holds v) ≡ gives (of_value v)) → tell (faulty (arisen TWO p)) ≡ Err (arisen TWO p) →
       Reads c.n c.k (places c m s.card) h p gives a
   reads p gives a tell is word two t =
       let hand = hands p t in (
@@ -43,24 +43,24 @@ module _ (c : CodeModel) (m : CardModel) (cl : CodeLaws c) (ml : CardLaws m) (h 
       cond-true _ _ _ (lt-ltb p (places c m s.card) i) ∙ cond-true _ _ _ (lt-ltb v (2 ^ c.n) b) ∙ cond-true _ _ _ (lt-ltb e (2 ^ (c.n / 8)) l) ∙ cond-false _ _ _ (ne_eqb e 0 nz)
 
   merge_reads : (p v e : ℕ) → v < 2 ^ c.n → e < 2 ^ (c.n / 8) → (e ≡ 0 → ⊥) →
-      Reads c.n c.k (places c m s.card) h p (λ old. Merged (Some old)) (merge_told (merged c m s p v e).answer)
+      Reads c.n c.k (places c m s.card) h p (λ old. Ok (Merged (Some old))) (replied Merged (merged c m s p v e).answer)
   merge_reads p v e b l nz =
-      reads p (λ old. Merged (Some old)) (merge_told (merged c m s p v e).answer) (λ y. merge_told (merging c m s p v e y).answer)
-      (λ i. ap (λ o. merge_told o.answer) (merged_is p v e b l nz i)) (λ w. refl) refl
+      reads p (λ old. Ok (Merged (Some old))) (replied Merged (merged c m s p v e).answer) (λ y. replied Merged (merging c m s p v e y).answer)
+      (λ i. ap (λ o. replied Merged o.answer) (merged_is p v e b l nz i)) (λ w. refl) refl
 
   -- an inject into a place in hand
-  inject_owed : (p x : ℕ) → T (is_in_hand (c.n + c.k) h p) → (x < c.n + c.k → done_told (injected c m s p x).answer ≡ Done) × (c.n + c.k ≤ x → done_told (injected c m s p x).answer ≡ Refused (arisen CELL p))
+  inject_owed : (p x : ℕ) → T (is_in_hand (c.n + c.k) h p) → (x < c.n + c.k → replied (λ _. Done) (injected c m s p x).answer ≡ Ok Done) × (c.n + c.k ≤ x → replied (λ _. Done) (injected c m s p x).answer ≡ Err (arisen CELL p))
   inject_owed p x t =
       let hand = hands p t in
       let inside = lt-ltb p (places c m s.card) hand.there in
-      let tell : Outcome m.State (Result (Unit {0}) Fault) → Answer = λ o. done_told o.answer in (
+      let tell : Outcome m.State (Result (Unit {0}) Fault) → Answer = λ o. replied (λ _. Done) o.answer in (
         λ l. ap tell (cond-true _ _ _ inside ∙ cond-true _ _ _ (lt-ltb x (c.n + c.k) l) ∙ ap (injecting c m s p x) hand.entry),
         λ l. ap tell (cond-true _ _ _ inside ∙ cond-false _ _ _ (le-ltb x (c.n + c.k) l)),
       )
 
   pub owed : (k : Call) → Fine s.log → Counts c.n c.k (places c m s.card) h s.log.counter → Owed c.n c.k (places c m s.card) h k (step c m s k).answer
   owed (Read p) f n =
-      reads p Gave (step c m s (Read p)).answer (λ y. read_told (shown y)) (λ i. ap read_told (read_entered (unit_card c m) s p i)) (λ v. refl) refl
+      reads p (λ w. Ok (Gave w)) (step c m s (Read p)).answer (λ y. replied Gave (shown y)) (λ i. ap (replied Gave) (read_entered (unit_card c m) s p i)) (λ v. refl) refl
   owed (Write p w) f n = tt
   owed (Merge p w e) f n = λ t.
       let all = and_parts (ltb (value w) (2 ^ c.n)) (ltb e (2 ^ (c.n / 8)) && not (eqb e 0)) (holds_true _ t) in

@@ -7,7 +7,7 @@ use Rattle.parts.specs.Units.{UnitState}
 use Rattle.unit.specs.Steps.{step}
 use Rattle.runs.specs.Runs.{answers, final}
 use Rattle.unit.specs.declared.calls.Call.{Call}
-use Rattle.unit.specs.declared.calls.Answer.{Answer}
+use Rattle.unit.specs.Steps.{Answer}
 
 module _ (c : CodeModel) (m : CardModel) where
   pub length_answers : (s : UnitState m.State) (calls : List Call) → length (answers c m s calls) ≡ length calls

@@ -1,11 +1,10 @@
 -- Words for a unit's past, told from the calls that were made on it and their answers alone. Assumes nothing.
-use Rattle.std.specs.Prelude.{ℕ, zero, suc, ◌+◌, ◌/◌, ◌%◌, ◌^◌, Bool, true, false, cond, ◌&&◌, List, [], ◌∷◌, ◌==◌, nat_lt}
+use Rattle.std.specs.Prelude.{ℕ, zero, suc, is_ok, ◌+◌, ◌/◌, ◌%◌, ◌^◌, Bool, true, false, cond, ◌&&◌, List, [], ◌∷◌, ◌==◌, nat_lt}
 use Rattle.word.specs.Words.{value}
 use Rattle.parts.specs.Merges.{joined}
 use Rattle.unit.specs.declared.calls.Call.{Call}
 use Rattle.unit.specs.declared.calls.Call.TheVariants.{Read, Write, Merge, Scrub, Inject, Log, First, Clear}
-use Rattle.unit.specs.declared.calls.Answer.{Answer}
-use Rattle.unit.specs.declared.calls.Answer.TheVariants.{Done, Gave, Merged, LogWord, FirstWas, Refused}
+use Rattle.unit.specs.Steps.{Answer}
 
 -- a call and its answer
 pub record Made : Type 0 where
@@ -24,12 +23,7 @@ past h (k ∷ calls) (a ∷ answers) = past (record { call = k; answer = a } ∷
 
 -- not refused
 abbrev pub granted : Answer → Bool
-granted Done = true
-granted (Gave w) = true
-granted (Merged o) = true
-granted (LogWord v) = true
-granted (FirstWas o) = true
-granted (Refused f) = false
+granted a = is_ok a
 
 -- a call that stores a whole word at p: a write, or a merge that keeps no lane
 abbrev pub writes : ℕ → Call → Bool

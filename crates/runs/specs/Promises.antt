@@ -1,5 +1,5 @@
 -- What is promised of any run of calls on a unit. Assumes nothing.
-use Rattle.std.specs.Prelude.{◌≡◌, ℕ, ◌+◌, ◌/◌, ◌%◌, ◌^◌, ◌<◌, ◌≤◌, min, Bool, true, false, cond, not, ◌&&◌, T, [], ◌∷◌, Some, None, Option, ◌==◌, nat_lt}
+use Rattle.std.specs.Prelude.{◌≡◌, ℕ, ◌+◌, ◌/◌, ◌%◌, ◌^◌, ◌<◌, ◌≤◌, min, Ok, Err, Bool, true, false, cond, not, ◌&&◌, T, [], ◌∷◌, Some, None, Option, ◌==◌, nat_lt}
 use Rattle.word.specs.Words.{value, of_value}
 use Rattle.word.specs.Faults.{arisen}
 use Rattle.word.specs.declared.words.Word.{Word}
@@ -7,8 +7,8 @@ use Rattle.word.specs.declared.refusals.Refusal.TheVariants.{Cell as CELL, Two a
 use Rattle.runs.specs.Histories.{History, upset_cells, is_in_hand, last_laid}
 use Rattle.unit.specs.declared.calls.Call.{Call}
 use Rattle.unit.specs.declared.calls.Call.TheVariants.{Read, Write, Merge, Scrub, Inject, Log, First, Clear}
-use Rattle.unit.specs.declared.calls.Answer.{Answer}
-use Rattle.unit.specs.declared.calls.Answer.TheVariants.{Done, Gave, Merged, LogWord, Refused}
+use Rattle.unit.specs.Steps.{Answer}
+use Rattle.unit.specs.declared.calls.Reply.TheVariants.{Done, Gave, Merged, LogWord}
 
 -- a unit of n data cells and k check cells, with so many places
 module _ (n k places : ℕ) where
@@ -38,7 +38,7 @@ module _ (n k places : ℕ) where
   abbrev pub Reads : History → ℕ → (Word → Answer) → Answer → Type 0
   Reads h p gives a =
       T (is_in_hand cells h p) →
-      (upset_cells cells h p < 2 → a ≡ gives (of_value (last_laid lanes h p))) × (2 ≤ upset_cells cells h p → a ≡ Refused (arisen TWO p))
+      (upset_cells cells h p < 2 → a ≡ gives (of_value (last_laid lanes h p))) × (2 ≤ upset_cells cells h p → a ≡ Err (arisen TWO p))
 
   -- every reading since the log was last new or cleared met a place in hand
   abbrev pub MetInHand : History → Option ℕ → Type 0
@@ -74,12 +74,12 @@ module _ (n k places : ℕ) where
 
   -- what the calls before it make of an answer
   abbrev pub Owed : History → Call → Answer → Type 0
-  Owed h (Read p) a = Reads h p Gave a
+  Owed h (Read p) a = Reads h p (λ old. Ok (Gave old)) a
   Owed h (Write p w) a = Unit {0}
-  Owed h (Merge p w e) a = T (keeps w e) → Reads h p (λ old. Merged (Some old)) a
-  Owed h (Scrub p) a = Reads h p (λ old. Merged (Some old)) a
-  Owed h (Inject p x) a = T (is_in_hand cells h p) → (x < cells → a ≡ Done) × (cells ≤ x → a ≡ Refused (arisen CELL p))
-  Owed h Log a = (v : ℕ) × (a ≡ LogWord v) × Counts h (v / 2 ^ 24 % 16)
+  Owed h (Merge p w e) a = T (keeps w e) → Reads h p (λ old. Ok (Merged (Some old))) a
+  Owed h (Scrub p) a = Reads h p (λ old. Ok (Merged (Some old))) a
+  Owed h (Inject p x) a = T (is_in_hand cells h p) → (x < cells → a ≡ Ok Done) × (cells ≤ x → a ≡ Err (arisen CELL p))
+  Owed h Log a = (v : ℕ) × (a ≡ Ok (LogWord v)) × Counts h (v / 2 ^ 24 % 16)
   Owed h First a = Unit {0}
   Owed h Clear a = Unit {0}
 

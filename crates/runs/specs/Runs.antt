@@ -9,7 +9,7 @@ use Rattle.unit.specs.Steps.{step}
 use Rattle.runs.specs.Histories.{History, past}
 use Rattle.runs.specs.Promises.{AllOwed, Counts}
 use Rattle.unit.specs.declared.calls.Call.{Call}
-use Rattle.unit.specs.declared.calls.Answer.{Answer}
+use Rattle.unit.specs.Steps.{Answer}
 
 module _ (c : CodeModel) (m : CardModel) where
   -- a unit with a new log over a card, whatever the card holds

@@ -1,16 +1,14 @@
 -- Scripts: their lines, and what it means to run them. Assumes nothing.
-use Rattle.std.specs.Prelude.{◌≡◌, ℕ, ◌+◌, ◌-◌, ◌<◌, ◌≤◌, Bool, true, false, cond, List, [], ◌∷◌, ◌++◌, length, take, Some, None, Option, ◌==◌}
+use Rattle.std.specs.Prelude.{◌≡◌, ℕ, ◌+◌, ◌-◌, ◌<◌, ◌≤◌, Bool, true, false, cond, List, [], ◌∷◌, ◌++◌, length, take, Some, None, Option, Err, ◌==◌}
 use Rattle.word.specs.Faults.{arisen}
 use Rattle.word.specs.declared.refusals.Refusal.TheVariants.{Line as LINE}
 use Rattle.code.specs.Codes.{CodeModel}
 use Rattle.card.specs.Cards.{CardModel}
 use Rattle.parts.specs.Units.{UnitState, Outcome}
-use Rattle.unit.specs.Steps.{step}
+use Rattle.unit.specs.Steps.{step, Answer}
 use Rattle.runs.specs.Histories.{past}
 use Rattle.runs.specs.Runs.{new_unit, answers, final, Kept}
 use Rattle.unit.specs.declared.calls.Call.{Call}
-use Rattle.unit.specs.declared.calls.Answer.{Answer}
-use Rattle.unit.specs.declared.calls.Answer.TheVariants.{Refused}
 use Rattle.lines.specs.Texts.{answer_text}
 use Rattle.lines.specs.Commands.{Parsed}
 
@@ -36,7 +34,7 @@ Asked l a = cond l.ended (Parsed l.bytes a) (a ≡ None)
 module _ (c : CodeModel) (m : CardModel) where
   -- the answer to a line, and the unit after it; a line that asks for nothing is refused, and alters nothing
   abbrev pub reply : UnitState m.State → Option Call → Outcome m.State Answer
-  reply s None = record { state = s; answer = Refused (arisen LINE 0) }
+  reply s None = record { state = s; answer = Err (arisen LINE 0) }
   reply s (Some call) = step c m s call
 
   -- how a run ended: the unit, the text that was written, the lines run, and whether it stopped for want of space

@@ -1,11 +1,17 @@
--- Text written into a buffer. Assumes nothing.
-use Rattle.std.specs.Prelude.{◌≡◌, ℕ, ◌+◌, List, ◌++◌, length, take, drop}
+-- Text written into a lent output. Assumes nothing.
+use Rattle.std.specs.Prelude.{◌≡◌, ℕ, ◌+◌, ◌≤◌, List, ◌++◌, length, take, drop}
+use Rattle.script.specs.declared.printing.Page.{Page}
 
--- a buffer with a text over what it held from a place on
-abbrev pub over : List ℕ → ℕ → List ℕ → List ℕ
-over xs at text = take at xs ++ (text ++ drop (at + length text) xs)
+-- so many bytes may still be written
+abbrev pub HasRoom : Page → ℕ → Type 0
+HasRoom p n = p.written + n ≤ length p.out.now
 
--- the buffer xs became ys by writing the text at a place, and `next` is the place behind it
-pub record Wrote (xs : List ℕ) (at : ℕ) (text ys : List ℕ) (next : ℕ) : Type 0 where
-  pub after : ys ≡ over xs at text
-  pub behind : next ≡ at + length text
+-- a page after a text was written behind the others
+pub record Wrote (old : Page) (text : List ℕ) (new : Page) : Type 0 where
+  pub told : take new.written new.out.now ≡ take old.written old.out.now ++ text
+  pub behind : new.written ≡ old.written + length text
+  -- what lies behind it was never touched
+  pub rest : drop new.written new.out.now ≡ drop new.written old.out.now
+  -- it is the same output, and as long
+  pub same : new.out.ghost_name ≡ old.out.ghost_name
+  pub long : length new.out.now ≡ length old.out.now

@@ -1,135 +1,134 @@
 // Answers as lines of text.
-ghost use Rattle.std.specs.Prelude.{◌≡◌, ◌+◌, ◌<◌, ◌≤◌, [], ◌∷◌, ◌++◌, length};
-ghost use Rattle.word.specs.Faults.{number_of};
+ghost use Rattle.std.specs.Prelude.{◌≡◌, ℕ, ◌+◌, ◌-◌, ◌<◌, ◌≤◌, [], ◌∷◌, ◌++◌, length};
 ghost use Rattle.lines.specs.Hex.{hex_digit, hex};
-ghost use Rattle.lines.specs.Texts.{field, ok_text, none_text, fault_text, first_line, answer_text};
-ghost use Rattle.script.specs.Written.{Wrote};
+ghost use Rattle.lines.specs.Texts.{field, fault_text, first_line, answer_text};
 
 use error_log::FirstError;
-use unit::Answer;
+use unit::{Answer, Reply};
 use word::Fault;
-
-// Writes one byte, and answers the place behind it.
-fn put(out: &mut [u8], at: usize, byte: u8) -> usize
-    requires { at < length out.old }
-    ensures { Wrote out.old at (byte ∷ []) out.new result }
-{
-    out[at] = byte;
-    at + 1
-}
 
 // The character of a number below 16.
 fn digit_of(number: u64) -> u8
     requires { number < 16 }
     ensures { result ≡ hex_digit number }
 {
-    if number < 10 {
-        b'0' + number as u8
-    } else {
-        b'a' + (number - 10) as u8
+    b"0123456789abcdef"[number as usize]
+}
+
+// The lowest digits of a number, the highest of them first.
+fn hex_of<const DIGITS: usize>(number: u64) -> [u8; DIGITS]
+    requires { DIGITS ≤ 16 }
+    ensures { result ≡ hex DIGITS number }
+{
+    let mut digits = [b'0'; DIGITS];
+    for (place, digit) in digits.iter_mut().enumerate() {
+        *digit = digit_of((number >> (4 * (DIGITS - 1 - place))) % 16);
     }
+    digits
 }
 
-// Writes the lowest digits of a number, the highest of them first.
-fn put_hex(out: &mut [u8], at: usize, digits: usize, value: u64) -> usize
-    requires { (digits ≤ 16) × (at + digits ≤ length out.old) }
-    ensures { Wrote out.old at (hex digits value) out.new result }
-{
-    if digits == 0 {
-        return at;
+// A lent output, and how many bytes of it are written.
+#[derive(Drop)]
+pub(crate) struct Page<'a> {
+    out: &'a mut [u8],
+    written: usize,
+    ghost within: { written ≤ length out.now },
+}
+
+impl<'a> Page<'a> {
+    ghost use Rattle.script.specs.Written.{HasRoom, Wrote};
+
+    // An output with nothing written yet.
+    pub(crate) fn new(out: &'a mut [u8]) -> Page<'a>
+        ensures same { result.out.ghost_name ≡ out.entry.ghost_name }
+        ensures lent { result.out.now ≡ out.old }
+        ensures empty { result.written ≡ 0 }
+    {
+        Page { out, written: 0 }
     }
-    let rest = digits - 1;
-    let digit = digit_of((value >> (4 * rest)) % 16);
-    let next = put(out, at, digit);
-    put_hex(out, next, rest, value)
-}
 
-// Writes a blank and the digits of a field.
-fn put_field(out: &mut [u8], at: usize, digits: usize, value: u64) -> usize
-    requires { (digits ≤ 16) × (at + (digits + 1) ≤ length out.old) }
-    ensures { Wrote out.old at (field digits value) out.new result }
-{
-    let next = put(out, at, b' ');
-    put_hex(out, next, digits, value)
-}
+    // How many bytes are written.
+    pub(crate) fn written(&self) -> usize
+        ensures { result ≡ self.now.written }
+    {
+        self.written
+    }
 
-fn put_ok(out: &mut [u8], at: usize) -> usize
-    requires { at + 32 ≤ length out.old }
-    ensures { Wrote out.old at ok_text out.new result }
-{
-    let at = put(out, at, b'o');
-    let at = put(out, at, b'k');
-    put(out, at, b'\n')
-}
+    // How many bytes may still be written.
+    pub(crate) fn room(&self) -> usize
+        ensures { result ≡ length self.now.out.now - self.now.written }
+    {
+        self.out.len() - self.written
+    }
 
-fn put_none(out: &mut [u8], at: usize) -> usize
-    requires { at + 32 ≤ length out.old }
-    ensures { Wrote out.old at none_text out.new result }
-{
-    let at = put(out, at, b'n');
-    let at = put(out, at, b'o');
-    let at = put(out, at, b'n');
-    let at = put(out, at, b'e');
-    put(out, at, b'\n')
-}
+    // Writes a text behind the others.
+    fn put(&mut self, text: &[u8])
+        requires { HasRoom self.old (length text.now) }
+        ensures { Wrote self.old text.now self.new }
+    {
+        let end = self.written + text.len();
+        self.out[self.written..end].copy_from_slice(text);
+        self.written = end;
+    }
 
-// "=", a number of so many digits.
-fn put_number(out: &mut [u8], at: usize, digits: usize, value: u64) -> usize
-    requires { (digits ≤ 16) × (at + 32 ≤ length out.old) }
-    ensures { Wrote out.old at (61 ∷ field digits value ++ (10 ∷ [])) out.new result }
-{
-    let at = put(out, at, b'=');
-    let at = put_field(out, at, digits, value);
-    put(out, at, b'\n')
-}
+    // Writes a blank and the digits of a field.
+    fn put_field<const DIGITS: usize>(&mut self, number: u64)
+        requires digits { DIGITS ≤ 16 }
+        requires room { HasRoom self.old (DIGITS + 1) }
+        ensures { Wrote self.old (field DIGITS number) self.new }
+    {
+        self.put(b" ");
+        self.put(&hex_of::<DIGITS>(number));
+    }
 
-// "=", then place, check bits and data.
-fn put_first(out: &mut [u8], at: usize, error: FirstError) -> usize
-    requires { at + 32 ≤ length out.old }
-    ensures { Wrote out.old at (first_line error) out.new result }
-{
-    let at = put(out, at, b'=');
-    let at = put_field(out, at, 4, error.place as u64);
-    let at = put_field(out, at, 2, error.raw.check as u64);
-    let at = put_field(out, at, 16, error.raw.data);
-    put(out, at, b'\n')
-}
+    // "=" and a number.
+    fn put_number<const DIGITS: usize>(&mut self, number: u64)
+        requires digits { DIGITS ≤ 16 }
+        requires room { HasRoom self.old 32 }
+        ensures { Wrote self.old (61 ∷ field DIGITS number ++ (10 ∷ [])) self.new }
+    {
+        self.put(b"=");
+        self.put_field::<DIGITS>(number);
+        self.put(b"\n");
+    }
 
-// The numbers that a fault's line shows: number, place, depth and way.
-fn numbers_of(fault: Fault) -> (u64, u64, u64, u64)
-    ensures { result ≡ (number_of fault.refusal, fault.place, fault.depth, fault.way) }
-{
-    let (number, place) = (u8::from(fault.refusal) as u64, fault.place as u64);
-    let (depth, way) = (fault.depth as u64, fault.way as u64);
-    (number, place, depth, way)
-}
+    // "=", then place, check bits and data.
+    fn put_first(&mut self, error: FirstError)
+        requires { HasRoom self.old 32 }
+        ensures { Wrote self.old (first_line error) self.new }
+    {
+        self.put(b"=");
+        self.put_field::<4>(u64::from(error.place));
+        self.put_field::<2>(u64::from(error.raw.check));
+        self.put_field::<16>(error.raw.data);
+        self.put(b"\n");
+    }
 
-// "!", then number, place, depth and way.
-fn put_fault(out: &mut [u8], at: usize, fault: Fault) -> usize
-    requires { at + 32 ≤ length out.old }
-    ensures { Wrote out.old at (fault_text fault) out.new result }
-{
-    let (number, place, depth, way) = numbers_of(fault);
-    let at = put(out, at, b'!');
-    let at = put_field(out, at, 1, number);
-    let at = put_field(out, at, 4, place);
-    let at = put_field(out, at, 2, depth);
-    let at = put_field(out, at, 4, way);
-    put(out, at, b'\n')
-}
+    // "!", then number, place, depth and way.
+    fn put_fault(&mut self, fault: Fault)
+        requires { HasRoom self.old 32 }
+        ensures { Wrote self.old (fault_text fault) self.new }
+    {
+        self.put(b"!");
+        self.put_field::<1>(u64::from(u8::from(fault.refusal)));
+        self.put_field::<4>(u64::from(fault.place));
+        self.put_field::<2>(u64::from(fault.depth));
+        self.put_field::<4>(u64::from(fault.way));
+        self.put(b"\n");
+    }
 
-// Writes the line of an answer.
-pub(crate) fn print(out: &mut [u8], at: usize, answer: Answer) -> usize
-    requires { at + 32 ≤ length out.old }
-    ensures { Wrote out.old at (answer_text answer) out.new result }
-{
-    match answer {
-        Answer::Done => put_ok(out, at),
-        Answer::Gave(word) => put_number(out, at, 16, word.low),
-        Answer::Merged(_) => put_ok(out, at),
-        Answer::LogWord(value) => put_number(out, at, 8, value as u64),
-        Answer::FirstWas(None) => put_none(out, at),
-        Answer::FirstWas(Some(error)) => put_first(out, at, error),
-        Answer::Refused(fault) => put_fault(out, at, fault),
+    // Writes the line of an answer.
+    pub(crate) fn print(&mut self, answer: Answer)
+        requires { HasRoom self.old 32 }
+        ensures { Wrote self.old (answer_text answer) self.new }
+    {
+        match answer {
+            Ok(Reply::Done | Reply::Merged(_)) => self.put(b"ok\n"),
+            Ok(Reply::Gave(word)) => self.put_number::<16>(word.low),
+            Ok(Reply::LogWord(word)) => self.put_number::<8>(u64::from(word)),
+            Ok(Reply::FirstWas(None)) => self.put(b"none\n"),
+            Ok(Reply::FirstWas(Some(error))) => self.put_first(error),
+            Err(fault) => self.put_fault(fault),
+        }
     }
 }

@@ -1,13 +1,13 @@
 // A script run on a unit.
-ghost use Rattle.std.specs.Prelude.{◌≡◌, ℕ, ◌+◌, ◌-◌, ◌^◌, ◌<◌, ◌≤◌, List, length, take, drop, MatchBool, ◌≢◌, slice_index};
+ghost use Rattle.std.specs.Prelude.{◌≡◌, ◌<◌, ◌≤◌, false, true, None, List, ◌∷◌, length, take, drop, MatchOption, ◌==◌};
+ghost use Rattle.std.specs.List.{position};
 ghost use Rattle.unit.specs.States.{state_of};
 ghost use Rattle.runs.specs.Runs.{new_unit, final};
 ghost use Rattle.unit.specs.declared.calls.Call.{Call as Called};
-ghost use Rattle.lines.specs.Texts.{answer_text};
-ghost use Rattle.script.specs.Written.{Wrote};
-ghost use Rattle.script.specs.Scripts.{Line, Asked, lines as cut_lines, reply as replied, Ran, GoesOn};
+ghost use Rattle.lines.specs.Commands.{Parsed};
+ghost use Rattle.script.specs.Scripts.{lines as cut_lines, reply as replied, Ran, GoesOn};
 
-use crate::printing::print;
+use crate::printing::Page;
 use card::Card;
 use code::Code;
 use lines::parse;
@@ -28,25 +28,30 @@ pub struct Report {
     pub stopped: bool,
 }
 
-// How many bytes stand before the first 0A, or all of them where there is none.
-fn line_length(text: &[u8]) -> usize
-    ensures within { result ≤ length text.now }
-    ensures before { (k : ℕ) → k < result → slice_index text.now k ≢ 10 }
-    ensures found { result < length text.now → slice_index text.now result ≡ 10 }
+// The place of the first 0A.
+fn line_end(text: &[u8]) -> Option<usize>
+    ensures { result ≡ position (λ b. b == 10) text.now }
 {
-    for (i, byte) in text.iter().enumerate() {
-        if *byte == b'\n' {
-            return i;
-        }
+    text.iter().position(|byte| *byte == b'\n')
+}
+
+// The first line of a text without the 0A that ends it, or nothing where none does, and what stands behind it.
+fn first_line(text: &[u8]) -> (Option<&[u8]>, &[u8])
+    requires { 0 < length text.now }
+    ensures cut { MatchOption result.0 (cut_lines text.now ≡ record { bytes = text.now; ended = false } ∷ cut_lines result.1.now) (λ line. cut_lines text.now ≡ record { bytes = line.now; ended = true } ∷ cut_lines result.1.now) }
+    ensures shorter { length result.1.now < length text.now }
+{
+    match line_end(text) {
+        Some(end) => (Some(&text[..end]), &text[end + 1..]),
+        None => (None, &[]),
     }
-    text.len()
 }
 
 // What a line asks for. An unfinished line asks for nothing.
-fn asked(line: &[u8], ended: bool) -> Option<Call>
-    ensures { Asked (record { bytes = line.now; ended = ended }) result }
+fn asked(line: Option<&[u8]>) -> Option<Call>
+    ensures { MatchOption line.entry (result ≡ None) (λ text. Parsed text.now result) }
 {
-    if ended { parse(line) } else { None }
+    parse(line?)
 }
 
 // The answer to what a line asks for.
@@ -54,33 +59,8 @@ fn answer_to<C: Code, D: Card>(unit: &mut Unit<C, D>, call: Option<Call>) -> Ans
     ensures answer { result ≡ (replied C.Code.code D.Card.model (state_of D.Card.state unit.old) call).answer }
     ensures after { state_of D.Card.state unit.new ≡ (replied C.Code.code D.Card.model (state_of D.Card.state unit.old) call).state }
 {
-    match call {
-        Some(call) => unit.make(call),
-        None => Answer::Refused(Fault::arise(Refusal::Line, 0)),
-    }
-}
-
-// Whether one more line of output is sure to fit behind the bytes written.
-fn has_room(out: &[u8], written: usize) -> bool
-    requires { written ≤ length out.now }
-    ensures { MatchBool result (32 ≤ length out.now - written) (length out.now - written < 32) }
-{
-    out.len() - written >= LINE_MOST
-}
-
-// Writes an answer behind the bytes written, and counts the line that it answers.
-fn tell(out: &mut [u8], report: Report, answer: Answer) -> Report
-    requires room { report.written + 32 ≤ length out.old }
-    requires few { report.lines + 1 < 2 ^ 64 }
-    ensures wrote { Wrote out.old report.written (answer_text answer) out.new result.written }
-    ensures counted { result.lines ≡ report.lines + 1 }
-    ensures goes { result.stopped ≡ report.stopped }
-{
-    Report {
-        lines: report.lines + 1,
-        written: print(out, report.written, answer),
-        stopped: report.stopped,
-    }
+    let call = call.ok_or(Fault::arise(Refusal::Line, 0))?;
+    unit.make(call)
 }
 
 // Runs a script on a unit, and writes the answers, a line each, into the output.
@@ -90,23 +70,26 @@ pub fn run<C: Code, D: Card>(unit: &mut Unit<C, D>, script: &[u8], out: &mut [u8
     ensures within { result.written ≤ length out.old }
     ensures rest { drop result.written out.new ≡ drop result.written out.old }
 {
-    let mut from = 0;
-    let mut report = Report {
-        lines: 0,
-        written: 0,
-        stopped: false,
-    };
-    while from < script.len() {
-        if !has_room(out, report.written) {
-            report.stopped = true;
-            return report;
+    let mut page = Page::new(out);
+    let mut lines = 0;
+    let mut rest = script;
+    while !rest.is_empty() {
+        if page.room() < LINE_MOST {
+            return Report {
+                lines,
+                written: page.written(),
+                stopped: true,
+            };
         }
-        let rest = &script[from..];
-        let long = line_length(rest);
-        let call = asked(&rest[0..long], long < rest.len());
-        let answer = answer_to(unit, call);
-        report = tell(out, report, answer);
-        from = from + long + 1;
+        let (line, behind) = first_line(rest);
+        let answer = answer_to(unit, asked(line));
+        page.print(answer);
+        lines += 1;
+        rest = behind;
     }
-    report
+    Report {
+        lines,
+        written: page.written(),
+        stopped: false,
+    }
 }

@@ -15,6 +15,7 @@ fn tell_edge(rt: &impl Print, what: &str, script: &[u8], out: &mut [u8]) -> io::
 const REFUSED: &str =
     "\nR 000A\nR  0001\nR\t0001\nR 0001 \nR 001\nR 00001\nr 0001\nR 0001\r\nL 0\nW 0001\nI 0001 000\nR 0001";
 
+// Too little room, lines that are refused, and the longest script.
 pub fn tell_edges(rt: &impl Print) -> io::Result<()> {
     tell_edge(rt, "no line", b"", &mut [0u8; 32])?;
     tell_edge(rt, "one line, just enough room", b"C\n", &mut [0u8; 32])?;

@@ -1,7 +1,7 @@
 // The eight calls of a unit, and their answers, as values.
 ghost use Rattle.std.specs.Prelude.{◌≡◌};
 ghost use Rattle.unit.specs.States.{state_of};
-ghost use Rattle.unit.specs.Steps.{step, read_told, done_told, merge_told};
+ghost use Rattle.unit.specs.Steps.{step};
 
 use crate::units::Unit;
 use card::Card;
@@ -26,9 +26,10 @@ pub enum Call {
     Clear,
 }
 
+// What a granted call gives.
 #[derive(Clone, Copy, PartialEq, Eq, Debug)]
-pub enum Answer {
-    // granted, with nothing to tell
+pub enum Reply {
+    // nothing to tell
     Done,
     // the word that a read gives
     Gave(Word),
@@ -38,8 +39,10 @@ pub enum Answer {
     LogWord(u32),
     // the first error, or none
     FirstWas(Option<FirstError>),
-    Refused(Fault),
 }
+
+// What a call is answered: a reply, or the fault with which it is refused.
+pub type Answer = Result<Reply, Fault>;
 
 impl<C: Code, D: Card> Unit<C, D> {
     // Makes one call.
@@ -48,44 +51,19 @@ impl<C: Code, D: Card> Unit<C, D> {
         ensures after { state_of D.Card.state self.new ≡ (step C.Code.code D.Card.model (state_of D.Card.state self.old) call).state }
     {
         match call {
-            Call::Read(place) => read_answer(self.read(place)),
-            Call::Write(place, word) => done_answer(self.write(place, word)),
-            Call::Merge(place, word, enables) => merge_answer(self.merge(place, word, enables)),
-            Call::Scrub(place) => merge_answer(self.scrub(place)),
-            Call::Inject(place, cell) => done_answer(self.inject(place, cell)),
-            Call::Log => Answer::LogWord(self.log()),
-            Call::First => Answer::FirstWas(self.first()),
+            Call::Read(place) => self.read(place).map(Reply::Gave),
+            Call::Write(place, word) => self.write(place, word).map(|()| Reply::Done),
+            Call::Merge(place, word, enables) => {
+                self.merge(place, word, enables).map(Reply::Merged)
+            }
+            Call::Scrub(place) => self.scrub(place).map(Reply::Merged),
+            Call::Inject(place, cell) => self.inject(place, cell).map(|()| Reply::Done),
+            Call::Log => Ok(Reply::LogWord(self.log())),
+            Call::First => Ok(Reply::FirstWas(self.first())),
             Call::Clear => {
                 self.clear();
-                Answer::Done
+                Ok(Reply::Done)
             }
         }
-    }
-}
-
-fn read_answer(res: Result<Word, Fault>) -> Answer
-    ensures { result ≡ read_told res }
-{
-    match res {
-        Ok(word) => Answer::Gave(word),
-        Err(fault) => Answer::Refused(fault),
-    }
-}
-
-fn done_answer(res: Result<(), Fault>) -> Answer
-    ensures { result ≡ done_told res }
-{
-    match res {
-        Ok(()) => Answer::Done,
-        Err(fault) => Answer::Refused(fault),
-    }
-}
-
-fn merge_answer(res: Result<Option<Word>, Fault>) -> Answer
-    ensures { result ≡ merge_told res }
-{
-    match res {
-        Ok(old) => Answer::Merged(old),
-        Err(fault) => Answer::Refused(fault),
     }
 }

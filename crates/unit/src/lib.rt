@@ -4,5 +4,5 @@
 mod calls;
 mod units;
 
-pub use calls::{Answer, Call};
+pub use calls::{Answer, Call, Reply};
 pub use units::Unit;

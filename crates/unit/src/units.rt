@@ -12,7 +12,7 @@ use card::Card;
 use code::Code;
 use error_log::{FirstError, Log};
 use parts::{log_word, merge_words, places, read_over, write_over};
-use word::{Fault, Refusal, Word};
+use word::{Fault, Refusal, Word, check_place, check_width};
 
 // Stores check bits beside every word of the card below, puts one wrong cell right, and logs what its readings meet.
 #[derive(Drop)]
@@ -40,13 +40,8 @@ impl<C: Code, D: Card> Unit<C, D> {
         ensures answer { result ≡ (merged C.Code.code D.Card.model (state_of D.Card.state self.old) place (value word) enables).answer }
         ensures after { state_of D.Card.state self.new ≡ (merged C.Code.code D.Card.model (state_of D.Card.state self.old) place (value word) enables).state }
     {
-        if place as u32 >= self.count() {
-            return Err(Fault::arise(Refusal::Place, place));
-        }
-        if !word.fits(self.code.data_width()) {
-            let wide = Fault::arise(Refusal::Wide, place);
-            return Err(wide);
-        }
+        check_place(place, self.count())?;
+        check_width(word, self.code.data_width(), place)?;
         if enables as u16 >= 1u16 << self.lanes() {
             return Err(Fault::arise(Refusal::Enable, place));
         }
@@ -64,13 +59,9 @@ impl<C: Code, D: Card> Unit<C, D> {
         ensures answer { result ≡ (kept C.Code.code D.Card.model (state_of D.Card.state self.old) place new enables).answer }
         ensures after { state_of D.Card.state self.new ≡ (kept C.Code.code D.Card.model (state_of D.Card.state self.old) place new enables).state }
     {
-        match self.read(place) {
-            Ok(old) => {
-                self.store_merged(place, old.low, new, enables)?;
-                Ok(Some(old))
-            }
-            Err(met) => Err(met),
-        }
+        let old = self.read(place)?;
+        self.store_merged(place, old.low, new, enables)?;
+        Ok(Some(old))
     }
 
     // Stores an old word and a new one merged, with fresh check bits, also where the old one was sound.
@@ -79,7 +70,7 @@ impl<C: Code, D: Card> Unit<C, D> {
         ensures after { state_of D.Card.state self.new ≡ write_state (unit_card C.Code.code D.Card.model) (state_of D.Card.state self.old) place (value (record { low = joined 8 enables old new; top = 0 })) }
     {
         let low = merge_words(enables, old, new);
-        self.write(place, Word { low, top: 0 })
+        self.write(place, Word::from(low))
     }
 
     // A merge that keeps every lane: stores the word that it read, put right, with fresh check bits, and gives it.
@@ -110,16 +101,12 @@ impl<C: Code, D: Card> Unit<C, D> {
         ensures answer { result ≡ (injected C.Code.code D.Card.model (state_of D.Card.state self.old) place cell).answer }
         ensures after { state_of D.Card.state self.new ≡ (injected C.Code.code D.Card.model (state_of D.Card.state self.old) place cell).state }
     {
-        if place as u32 >= self.count() {
-            return Err(Fault::arise(Refusal::Place, place));
-        }
+        check_place(place, self.count())?;
         if cell >= self.code.raw_width() {
             return Err(Fault::arise(Refusal::Cell, place));
         }
-        match self.card.read(place) {
-            Ok(raw) => self.card.write(place, raw.flip(cell)),
-            Err(below) => Err(below.pass_up()),
-        }
+        let raw = self.card.read(place).map_err(Fault::pass_up)?;
+        self.card.write(place, raw.flip(cell))
     }
 }
 

@@ -1,13 +1,13 @@
 // How a log is kept.
 ghost use Rattle.std.specs.Prelude.{◌≡◌};
-ghost use Rattle.error_log.specs.Logs.{log_of, new_log, noted, error_half};
+ghost use Rattle.error_log.specs.Logs.{new_log, noted, error_half, LogKept};
 
 use crate::logs::Log;
 use crate::records::{FirstError, Kind, RawWord};
 
 impl Log {
     pub fn new() -> Log
-        ensures { log_of result ≡ new_log }
+        ensures { result ≡ new_log }
     {
         Log {
             counter: 0,
@@ -21,7 +21,7 @@ impl Log {
 
     // Records a raw word that was taken at a place. A syndrome that is not 0 is an error.
     pub fn note(&mut self, place: u16, raw: RawWord, syndrome: u8, damaged: bool)
-        ensures { log_of self.new ≡ noted place raw syndrome damaged (log_of self.old) }
+        ensures { self.new ≡ noted place raw syndrome damaged self.old }
     {
         self.taken = Some(raw);
         if syndrome == 0 {
@@ -31,16 +31,14 @@ impl Log {
             self.first = Some(place);
             self.first_raw = raw;
         }
-        if self.counter < 15 {
-            self.counter += 1;
-        }
+        self.counter = (self.counter + 1).min(15);
         self.kind = if damaged { Kind::Damaged } else { Kind::Single };
         self.syndrome = syndrome;
     }
 
     // The raw word last taken.
     pub fn taken(&self) -> Option<RawWord>
-        ensures { result ≡ (log_of self.now).taken }
+        ensures { result ≡ self.now.taken }
     {
         let Log { taken, .. } = self;
         *taken
@@ -48,20 +46,18 @@ impl Log {
 
     // The first error.
     pub fn first(&self) -> Option<FirstError>
-        ensures { result ≡ (log_of self.now).first }
+        ensures { result ≡ self.now.first }
     {
-        match self.first {
-            Some(place) => Some(FirstError {
-                place,
-                raw: self.first_raw,
-            }),
-            None => None,
-        }
+        self.first.map(|place| FirstError {
+            place,
+            raw: self.first_raw,
+        })
     }
 
     // The upper half of the log word: kind, counter and syndrome of the latest error.
     pub fn errors(&self) -> u16
-        ensures { result ≡ error_half (log_of self.now) }
+        ensures told { result ≡ error_half self.now }
+        ensures kept { LogKept self.now.counter self.now.kind }
     {
         self.kind as u16 * 0x4000 + self.counter as u16 * 0x100 + self.syndrome as u16
     }

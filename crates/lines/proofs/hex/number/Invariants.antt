@@ -3,4 +3,4 @@ use Rattle.lines.specs.Hex.{hex}
 use Rattle.lines.proofs.hex.number.Given as goal
 
 abbrev pub invariant-loop-byte : goal.invariant-loop-byte
-invariant-loop-byte l = (l.value < 2 ^ (4 * l.byte-index)) × (take l.byte-index l.field ≡ hex l.byte-index l.value)
+invariant-loop-byte g l = (l.value < 2 ^ (4 * l.byte-index)) × (take l.byte-index l.text ≡ hex l.byte-index l.value)

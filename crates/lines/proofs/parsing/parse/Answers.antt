@@ -1,9 +1,5 @@
-use Rattle.std.proofs.Common.{sym, ◌∙◌}
-use Rattle.lines.proofs.OneText.{one_text}
+use Rattle.lines.proofs.OneText.{parsed_from}
 use Rattle.lines.proofs.parsing.parse.Goals as goal
 
-pub returns-in-Some : goal.returns-in-Some
-returns-in-Some c =
-    let told = c.call_of.ensures in
-    let line = c.in-Some.ensures.1 ∙ told.1 in
-    record { fits = told.0; text = line; only = λ d s e. one_text c.call_of.result d told.0 s (sym line ∙ e) }
+pub returns : goal.returns
+returns c = parsed_from c.args.line.now c.command_of.result c.map.result c.command_of.ensures c.map.ensures.cases

@@ -1,16 +1,21 @@
-use Rattle.std.proofs.Common.{◌≡◌, ◌+◌, ◌/◌, [], ◌∷◌, ap}
+use Rattle.std.proofs.Common.{rules, ◌≡◌, ℕ, ◌+◌, ◌/◌, List, [], ◌∷◌, slice_index_or, sym, refl, ◌∙◌}
+use Rattle.std.proofs.lemmas.Option.{same_Some}
 use Rattle.audit.specs.Watching.{Sees}
-use Rattle.audit.specs.Watchers.{watch_of}
-use Rattle.audit.specs.declared.watchers.LogWatch.{LogWatch}
+use Rattle.audit.specs.Watchers.{nowhere, watch_of}
 use Rattle.audit.proofs.Watchful.{each_of_four}
 use Rattle.audit.proofs.watchers.Watcher.new.Goals as goal
 
-pub returns : goal.returns
-returns c n k places b =
-    let all = c.new.result ∷ c.new-2.result ∷ c.new-3.result ∷ c.new-4.result ∷ [] in
+pub returns-clause-seen : goal.returns-clause-seen
+returns-clause-seen c n k places b =
+    let four : List ℕ = 0 ∷ 1 ∷ 2 ∷ 3 ∷ [] in
     record {
-      place_is = each_of_four (λ p. (watch_of all p).place ≡ p) c.new.ensures.here c.new-2.ensures.here c.new-3.ensures.here c.new-4.ensures.here;
-      place_seen = each_of_four (λ p. Sees (n + k) (n / 8) [] (watch_of all p))
-          (c.new.ensures.seen (n + k) (n / 8) b) (c.new-2.ensures.seen (n + k) (n / 8) b) (c.new-3.ensures.seen (n + k) (n / 8) b) (c.new-4.ensures.seen (n + k) (n / 8) b);
-      log_seen = record { all = λ _. tt; counted = λ _. ap (λ (l : LogWatch). l.errors_met) c.new-5.ensures };
+      place_is = λ p l.
+          let made = c.map.ensures.items.at p 0 nowhere l in
+          let e : (watch_of c.map.result p).place ≡ slice_index_or four p 0 = search rules in
+          e ∙ each_of_four (λ q. slice_index_or four q 0 ≡ q) refl refl refl refl p l;
+      place_seen = λ p l.
+          let made = c.map.ensures.items.at p 0 nowhere l in
+          let s : Sees (n + k) (n / 8) [] (watch_of c.map.result p) = search rules in
+          s;
+      log_seen = record { all = λ _ _. tt; counted = λ e q. sym (same_Some _ _ q) };
     }

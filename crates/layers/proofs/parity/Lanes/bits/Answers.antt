@@ -1,4 +1,4 @@
-use Rattle.std.proofs.Common.{◌≡◌, ℕ, suc, ◌+◌, ◌*◌, ◌%◌, ◌^◌, ◌<◌, ◌≤◌, take, get_or, lt_of_lt_of_le, add-one, arith, pow_mono, ◌∙◌}
+use Rattle.std.proofs.Common.{◌≡◌, ℕ, suc, ◌+◌, ◌*◌, ◌%◌, ◌^◌, ◌<◌, ◌≤◌, take, get_or, lt_of_lt_of_le, arith, pow_mono, ◌∙◌}
 use Rattle.std.proofs.lemmas.List.{length-take-le, get_or-take}
 use Rattle.layers.specs.Parities.{parity_bits}
 use Rattle.layers.specs.ParityFacts.{next_parity, parities_below, parity_bits_same}
@@ -21,9 +21,6 @@ overflow_add-bits c =
     let below : parity_bits c.args.self.sense (suc c.loop-j.j) (items c) < 2 ^ 8 =
     lt_of_lt_of_le (parities_below c.args.self.sense (suc c.loop-j.j) (items c)) (pow_mono eighth) in
     omega arith
-
-pub loop-j-preserved : goal.loop-j-preserved
-loop-j-preserved c = rw add-one (more c)
 
 pub returns : goal.returns
 returns c =
