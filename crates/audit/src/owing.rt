@@ -15,8 +15,9 @@ use unit::{Answer, Call, Reply};
 use word::{Fault, Refusal, Word};
 
 // The answer that is owed to a call.
-#[derive(Clone, Copy)]
+#[derive(Clone, Copy, PartialEq, Eq, Debug)]
 pub enum Due {
+    // this very answer
     This(Answer),
     // a log word, and its counter if that is owed too
     LogWord(Option<u8>),
@@ -46,7 +47,7 @@ fn is_log(answer: Answer, counter: Option<u8>) -> bool
 }
 
 // Whether a call was owed an answer, and got it.
-#[derive(Clone, Copy)]
+#[derive(Clone, Copy, PartialEq, Eq, Debug)]
 pub enum Verdict {
     Free,
     Agrees,

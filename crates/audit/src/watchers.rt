@@ -16,7 +16,8 @@ use unit::{Answer, Call};
 pub struct Watcher {
     pub shape: Shape,
     pub watches: [Watch; 4],
-    // if every reading since the log was new or cleared met a watched place in hand, how many of them met an upset cell, held at 15
+    // if every reading since the log was new or cleared met a watched place in hand, how many of them met an upset cell, held at 15;
+    // none where a reading met another place, or one that was not in hand
     pub errors_met: Option<u8>,
 }
 
@@ -91,10 +92,7 @@ impl Watcher {
         if call == Call::Clear {
             return Some(0);
         }
-        match place_met(self.shape, call) {
-            Some(place) => self.read(place),
-            None => self.errors_met,
-        }
+        place_met(self.shape, call).map_or(self.errors_met, |place| self.read(place))
     }
 
     // After one more call.

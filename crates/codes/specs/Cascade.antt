@@ -1,15 +1,8 @@
 -- The 64-bit code in two slices of 32 cells each. Assumes nothing.
-use Rattle.std.specs.Prelude.{◌≡◌, ℕ, ◌/◌, ◌%◌, ◌^◌, List, [], ◌∷◌, take, drop, bit_xor}
+use Rattle.std.specs.Prelude.{◌≡◌, ℕ, ◌/◌, ◌%◌, ◌^◌, take, drop, bit_xor}
 use Rattle.code.specs.Codes.{CodeModel, picked, generated, syndrome, codeword}
 use Rattle.code.specs.Decoding.{decoded}
 use Rattle.codes.specs.Tables.{columns64, inverted, code64}
-
--- the lanes of the columns that each slice has
-abbrev pub lower_order : List ℕ
-lower_order = 0 ∷ 1 ∷ 2 ∷ 3 ∷ []
-
-abbrev pub upper_order : List ℕ
-upper_order = 4 ∷ 5 ∷ 6 ∷ 7 ∷ []
 
 -- the partial check bits of cells 0 to 31; the inversion is made here and nowhere else
 abbrev pub lower_slice : ℕ → ℕ

@@ -1,5 +1,5 @@
 -- What each lane of a data word adds to its check bits. Assumes nothing.
-use Rattle.std.specs.Prelude.{◌≡◌, ℕ, suc, ◌+◌, ◌*◌, ◌<◌, List, [], ◌∷◌, ◌++◌, length, take, drop, bit_xor, slice_index}
+use Rattle.std.specs.Prelude.{◌≡◌, ℕ, ◌+◌, ◌*◌, ◌<◌, List, [], ◌∷◌, ◌++◌, length, take, drop, slice_index}
 use Rattle.code.specs.Codes.{picked}
 
 -- the columns of cells 8 j to 8 j + 7
@@ -15,8 +15,3 @@ pub record Shares (columns : List ℕ) (m : ℕ) (table : List ℕ) : Type 0 whe
 abbrev pub ordered : List ℕ → List ℕ → List ℕ
 ordered columns [] = []
 ordered columns (o ∷ os) = lane_columns columns o ++ ordered columns os
-
--- z with the shares of lane j, lane j + 1 and so on added, which have the columns of these lanes
-abbrev pub gathered : List ℕ → List ℕ → ℕ → ℕ → List ℕ → ℕ
-gathered columns lanes z j [] = z
-gathered columns lanes z j (o ∷ os) = gathered columns lanes (bit_xor z (picked (lane_columns columns o) (slice_index lanes j))) (suc j) os

@@ -18,10 +18,7 @@ table64 =
 unfoldable pub columns64 : List ℕ
 columns64 = table64
 
--- the lanes of these columns, in the order of the data's lanes
-abbrev pub order64 : List ℕ
-order64 = 0 ∷ 1 ∷ 2 ∷ 3 ∷ 4 ∷ 5 ∷ 6 ∷ 7 ∷ []
-
+-- the lanes of the 64-bit columns that the 32-bit code has, in the order of its own
 abbrev pub order32 : List ℕ
 order32 = 4 ∷ 1 ∷ 2 ∷ 7 ∷ []
 
@@ -39,9 +36,6 @@ table16 =
 
 unfoldable pub columns16 : List ℕ
 columns16 = table16
-
-abbrev pub order16 : List ℕ
-order16 = 0 ∷ 1 ∷ []
 
 -- z where check bits 2 and 3 are kept inverted
 abbrev pub inverted : ℕ

@@ -1,17 +1,15 @@
 // The code of 64 data cells made by two slices of 32 cells each, one after the other.
 ghost use Rattle.std.specs.Prelude.{◌≡◌, ◌%◌, ◌^◌, codes};
 ghost use Rattle.std.proofs.Math.Path.{refl};
-ghost use Rattle.codes.specs.Cascade.{SameAsSingle, cascaded64, lower_order, lower_slice, sliced, upper_order, upper_slice};
-ghost use Rattle.codes.specs.Lanes.{gathered};
-ghost use Rattle.codes.specs.Tables.{columns64, inverted};
+ghost use Rattle.codes.specs.Cascade.{SameAsSingle, cascaded64, lower_slice, sliced, upper_slice};
+ghost use Rattle.codes.specs.Tables.{columns64};
 ghost use Rattle.std.specs.Int.Count.{ones, ones_in};
 ghost use Rattle.codes.specs.Lawful;
 ghost use Rattle.codes.specs.Slices.{lower_below};
 
 use crate::code64::Code64;
-use crate::shares::{INVERTED, Shares64, add_shares};
+use crate::shares::{INVERTED, Shares64, add_columns};
 use code::{Code, Located};
-use word::lanes_of;
 
 #[derive(Clone, Copy)]
 pub struct Cascaded64;
@@ -59,17 +57,19 @@ pub fn cascade(data: u64) -> u8
 }
 
 // The partial check bits of data cells 0 to 31, with the inversion of check bits 2 and 3.
+#[tactic(auto, unfolding(crate::specs::Tables::columns64))]
 pub fn lower_slice(low: u32) -> u8
     ensures { result ≡ lower_slice low }
 {
-    add_shares::<Shares64>(INVERTED, &[0, 1, 2, 3], lanes_of(low as u64))
+    add_columns::<Shares64>(INVERTED, &[0, 1, 2, 3], low as u64)
 }
 
 // The check bits once those of data cells 32 to 63 are added to partial ones; nothing is inverted again.
+#[tactic(auto, unfolding(crate::specs::Tables::columns64))]
 pub fn upper_slice(partial: u8, high: u32) -> u8
     ensures { result ≡ upper_slice partial high }
 {
-    add_shares::<Shares64>(partial, &[4, 5, 6, 7], lanes_of(high as u64))
+    add_columns::<Shares64>(partial, &[4, 5, 6, 7], high as u64)
 }
 
 // How many data cells each slice of the cascaded code takes; the two make the check bits, syndromes, codewords and decoded words of

@@ -2,15 +2,13 @@
 ghost use Rattle.std.specs.Prelude.{◌≡◌, codes};
 ghost use Rattle.std.proofs.Math.Path.{refl};
 ghost use Rattle.code.specs.Codes.{told};
-ghost use Rattle.codes.specs.Tables.{code16, columns16, order16, table16, z16};
-ghost use Rattle.codes.specs.Lanes.{gathered};
+ghost use Rattle.codes.specs.Tables.{code16, columns16, table16};
 ghost use Rattle.std.specs.Int.Count.{ones, ones_in};
 ghost use Rattle.std.proofs.Math.Dec.{lit<};
 ghost use Rattle.codes.specs.Lawful;
 
-use crate::shares::{Shares16, add_shares};
+use crate::shares::{Shares16, add_columns};
 use code::{Code, Located};
-use word::lanes_of;
 
 // z: the check bits of no data.
 const Z16: u8 = 0x00;
@@ -39,10 +37,12 @@ impl Code for Code16 {
         "16-bit code"
     }
 
+    #[tactic(auto, unfolding(crate::specs::Tables::columns16))]
     fn generate(&self, data: u64) -> u8 {
-        add_shares::<Shares16>(Z16, &[0, 1], lanes_of(data))
+        add_columns::<Shares16>(Z16, &[0, 1], data)
     }
 
+    #[tactic(auto, unfolding(crate::specs::Tables::columns16))]
     fn locate(&self, syndrome: u8) -> Located {
         look_up(syndrome % 0x40)
     }

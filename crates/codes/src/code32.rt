@@ -2,15 +2,13 @@
 ghost use Rattle.std.specs.Prelude.{◌≡◌, codes};
 ghost use Rattle.std.proofs.Math.Path.{refl};
 ghost use Rattle.code.specs.Codes.{told};
-ghost use Rattle.codes.specs.Tables.{code32, columns64, inverted, order32, table32, columns32};
-ghost use Rattle.codes.specs.Lanes.{gathered};
+ghost use Rattle.codes.specs.Tables.{code32, columns32, columns64, table32};
 ghost use Rattle.std.specs.Int.Count.{ones, ones_in};
 ghost use Rattle.std.proofs.Math.Dec.{lit<};
 ghost use Rattle.codes.specs.Lawful;
 
-use crate::shares::{INVERTED, Shares64, add_shares};
+use crate::shares::{INVERTED, Shares64, add_columns};
 use code::{Code, Located};
-use word::lanes_of;
 
 #[derive(Clone, Copy)]
 pub struct Code32;
@@ -36,10 +34,12 @@ impl Code for Code32 {
         "32-bit code"
     }
 
+    #[tactic(auto, unfolding(crate::specs::Tables::columns32, crate::specs::Tables::columns64))]
     fn generate(&self, data: u64) -> u8 {
-        add_shares::<Shares64>(INVERTED, &[4, 1, 2, 7], lanes_of(data))
+        add_columns::<Shares64>(INVERTED, &[4, 1, 2, 7], data)
     }
 
+    #[tactic(auto, unfolding(crate::specs::Tables::columns32, crate::specs::Tables::columns64))]
     fn locate(&self, syndrome: u8) -> Located {
         look_up(syndrome % 0x80)
     }

@@ -2,14 +2,13 @@
 ghost use Rattle.std.specs.Prelude.{◌≡◌, codes};
 ghost use Rattle.std.proofs.Math.Path.{refl};
 ghost use Rattle.code.specs.Codes.{told};
-ghost use Rattle.codes.specs.Tables.{code64, columns64, inverted, order64, table64};
-ghost use Rattle.codes.specs.Lanes.{gathered};
+ghost use Rattle.codes.specs.Tables.{code64, table64};
 ghost use Rattle.codes.specs.Marks.{Marks64, followed};
 ghost use Rattle.codes.specs.Marked.{lawful64};
 
-use crate::shares::{INVERTED, Shares64, add_shares};
+use crate::shares::{INVERTED, Shares64, add_columns};
 use code::{Code, Located};
-use word::{Refusal, lanes_of};
+use word::Refusal;
 
 #[derive(Clone, Copy)]
 pub struct Code64;
@@ -35,8 +34,9 @@ impl Code for Code64 {
         "64-bit code"
     }
 
+    #[tactic(auto, unfolding(crate::specs::Tables::columns64))]
     fn generate(&self, data: u64) -> u8 {
-        add_shares::<Shares64>(INVERTED, &[0, 1, 2, 3, 4, 5, 6, 7], lanes_of(data))
+        add_columns::<Shares64>(INVERTED, &[0, 1, 2, 3, 4, 5, 6, 7], data)
     }
 
     fn locate(&self, syndrome: u8) -> Located {
@@ -154,6 +154,7 @@ static MARKS: [u8; 256] = *b"\
     \x4a\x49\x49\x18\x49\x19\x1a\x49\x49\x1b\x1c\x49\x1d\x49\x49\x4a\
     \x49\x1e\x4a\x49\x1f\x49\x49\x4a\x4a\x49\x49\x4a\x49\x4a\x4a\x49";
 
+// The marks as the check knows them.
 fn marks() -> &'static [u8; 256]
     ensures { Marks64 result.now }
 {

@@ -1,9 +1,12 @@
 // What each lane of a data word adds to its check bits, by table.
-ghost use Rattle.std.specs.Prelude.{◌≡◌, ℕ, ◌<◌, ◌≤◌, List, length, All, fold, bit_xor};
+ghost use Rattle.std.specs.Prelude.{◌≡◌, ℕ, ◌*◌, ◌<◌, ◌≤◌, List, length, All, fold, bit_xor};
 ghost use Rattle.std.specs.List.{zip};
+ghost use Rattle.std.proofs.Common.{lit≤};
 ghost use Rattle.codes.specs.Tables.{columns16, columns64};
 ghost use Rattle.code.specs.Codes.{picked};
-ghost use Rattle.codes.specs.Lanes.{lane_columns, Shares, gathered};
+ghost use Rattle.codes.specs.Lanes.{lane_columns, ordered, Shares};
+
+use word::lanes_of;
 
 // z of the codes of 32 and 64 data cells: check bits 2 and 3 are kept inverted.
 pub(crate) const INVERTED: u8 = 0x0c;
@@ -16,15 +19,18 @@ pub(crate) trait Shared {
 
     fn table() -> &'static [u8]
         ensures { Shares columns count result.now };
+
+    ghost long: { 8 * count ≤ length columns };
 }
 
-// z with the shares of lanes added: the first lane has the columns of the lane that the order names first, and so on.
-pub(crate) fn add_shares<T: Shared>(z: u8, order: &[u8], lanes: [u8; 8]) -> u8
+// z with the columns of the set cells added, by the shares of the lanes: the data's first lane has the columns of the lane that the order
+// names first, and so on.
+pub(crate) fn add_columns<T: Shared>(z: u8, order: &[u8], data: u64) -> u8
     requires few { length order.now ≤ 8 }
     requires known { All (λ o. o < T.count) order.now }
-    ensures { result ≡ gathered T.columns lanes z 0 order.now }
+    ensures { result ≡ bit_xor z (picked (ordered T.columns order.now) «data») }
 {
-    fold_shares::<T>(z, order, lanes)
+    fold_shares::<T>(z, order, lanes_of(data))
 }
 
 // The shares one after the other.
@@ -52,6 +58,8 @@ pub(crate) struct Shares64;
 impl Shared for Shares64 {
     ghost columns = { columns64 };
 
+    ghost long = { unfold columns64 in lit≤ tt };
+
     ghost count = { 8 };
 
     fn table() -> &'static [u8] {
@@ -64,6 +72,8 @@ pub(crate) struct Shares16;
 
 impl Shared for Shares16 {
     ghost columns = { columns16 };
+
+    ghost long = { unfold columns16 in lit≤ tt };
 
     ghost count = { 2 };
 

@@ -10,12 +10,13 @@ use std::fmt::Display;
 use std::io;
 
 // How a maker counts in its tables of sixteen rows.
-pub trait Maker {
+pub(crate) trait Maker {
     ghost syndrome_at: { ℕ → ℕ → ℕ → ℕ };
 
     // The syndrome of an entry, in a table of so many columns.
     fn syndrome(&self, columns: u8, row: u8, column: u8) -> u8
-        requires { (0 < columns) × (columns ≤ 16) }
+        requires some { 0 < columns }
+        requires few { columns ≤ 16 }
         ensures { result ≡ syndrome_at columns row column };
 
     // The check cell of a name after C.
@@ -23,7 +24,7 @@ pub trait Maker {
 }
 
 // The first maker counts its syndrome bits from the right, and numbers its check cells.
-pub struct First;
+pub(crate) struct First;
 
 impl Maker for First {
     ghost syndrome_at = { first_syndrome };
@@ -38,7 +39,7 @@ impl Maker for First {
 }
 
 // The second maker counts its syndrome bits from the left. It calls check cell 0 CX, and the others by powers of two, but for C0.
-pub struct Second;
+pub(crate) struct Second;
 
 impl Maker for Second {
     ghost syndrome_at = { second_syndrome };
@@ -55,12 +56,13 @@ impl Maker for Second {
 }
 
 // A published table.
-pub struct Sheet<M> {
+pub(crate) struct Sheet<M> {
     pub maker: M,
     pub title: &'static str,
     pub columns: u8,
     pub rows: [&'static str; 16],
-    ghost fits: { (0 < columns) × (columns ≤ 16) },
+    ghost some: { 0 < columns },
+    ghost few: { columns ≤ 16 },
 }
 
 impl<M: Maker> Sheet<M> {
@@ -103,7 +105,7 @@ fn compare_row<C: Code, M: Maker>(
     entries: &str,
 ) -> io::Result<u32> {
     let mut agreed = 0u32;
-    for (column, entry) in (0..sheet.columns).zip(entries.split_whitespace()) {
+    for (column, entry) in (0u8..=255).zip(entries.split_whitespace()) {
         let syndrome = sheet.maker.syndrome(sheet.columns, row, column);
         let agrees = compare_entry(rt, code, syndrome, sheet.read(entry), &entry)?;
         agreed = agreed.saturating_add(u32::from(agrees));

@@ -4,12 +4,10 @@ use std::io;
 
 // The decode table of a code.
 pub fn print_table<C: Code>(rt: &impl Print, code: &C) -> io::Result<()> {
-    for syndrome in 0u8..=255 {
-        if (syndrome as u16) < 1u16 << code.check_width().min(8) {
-            let name = code.name();
-            let located = code.locate(syndrome);
-            println!(rt; "{name}  {syndrome:02x}  {located}")?;
-        }
+    let name = code.name();
+    for syndrome in (0u8..=255).take(1 << code.check_width().min(8)) {
+        let located = code.locate(syndrome);
+        println!(rt; "{name}  {syndrome:02x}  {located}")?;
     }
     Ok(())
 }

@@ -5,16 +5,20 @@ use audit::Shape;
 use unit::Call;
 use word::Word;
 
-// The sequence: three shifts, each added without carry.
+// The sequence: three shifts, each added without carry. Its calls are for a unit of this shape.
 #[derive(Clone, Copy)]
 pub struct Draws {
+    shape: Shape,
     state: u64,
 }
 
 impl Draws {
     // The sequence that begins at a number; at 0 it would stay there.
-    pub fn new(start: u64) -> Draws {
-        Draws { state: start | 1 }
+    pub fn new(shape: Shape, start: u64) -> Draws {
+        Draws {
+            shape,
+            state: start | 1,
+        }
     }
 
     // The next number.
@@ -43,21 +47,21 @@ impl Draws {
     }
 
     // Mostly one of a few cells, so that they are hit again soon; now and then any number.
-    fn cell(&mut self, shape: Shape) -> u8 {
+    fn cell(&mut self) -> u8 {
         match self.below(16) {
             0 => self.below(255),
-            1..=5 => self.below(shape.cells().max(1)),
+            1..=5 => self.below(self.shape.cells().max(1)),
             n => n % 4 * 9,
         }
     }
 
     // Mostly a word that fits.
-    fn word(&mut self, shape: Shape) -> Word {
+    fn word(&mut self) -> Word {
         let low = self.next();
         if self.below(16) == 0 {
             return Word { low, top: 1 };
         }
-        if shape.width == 64 {
+        if self.shape.width == 64 {
             Word::from(low)
         } else {
             Word::from(low % 0x1_0000_0000)
@@ -65,22 +69,22 @@ impl Draws {
     }
 
     // Mostly enables that name lanes which exist.
-    fn enables(&mut self, shape: Shape) -> u8 {
+    fn enables(&mut self) -> u8 {
         match self.below(16) {
             0 => 0,
             1 => 0xff,
-            _ => self.below(if shape.lanes() == 8 { 255 } else { 16 }),
+            _ => self.below(if self.shape.lanes() == 8 { 255 } else { 16 }),
         }
     }
 
     // Any call, injects and reads most often.
-    pub fn call(&mut self, shape: Shape) -> Call {
+    pub fn call(&mut self) -> Call {
         match self.below(32) {
-            0..=8 => Call::Inject(self.place(), self.cell(shape)),
+            0..=8 => Call::Inject(self.place(), self.cell()),
             9..=15 => Call::Read(self.place()),
-            16..=20 => Call::Merge(self.place(), self.word(shape), self.enables(shape)),
+            16..=20 => Call::Merge(self.place(), self.word(), self.enables()),
             21..=24 => Call::Scrub(self.place()),
-            25..=27 => Call::Write(self.place(), self.word(shape)),
+            25..=27 => Call::Write(self.place(), self.word()),
             28..=29 => Call::Log,
             30 => Call::First,
             _ => Call::Clear,

@@ -84,11 +84,11 @@ pub fn tell_table<C: Code, D: Card>(
 
 // Draws calls and makes them, and counts what came of them.
 fn draw_run<C: Code, D: Card>(unit: &mut Unit<C, D>, shape: Shape, start: u64) -> Totals {
-    let mut draws = Draws::new(start);
+    let mut draws = Draws::new(shape, start);
     let mut watcher = Watcher::new(shape);
     let mut totals = Totals::default();
     for _ in 0..DRAWN {
-        let call = draws.call(shape);
+        let call = draws.call();
         let answer = unit.make(call);
         totals.count(&watcher, call, answer);
         watcher = watcher.after(call, answer);

@@ -6,9 +6,9 @@ use Rattle.word.specs.Words.{value, of_value}
 use Rattle.word.specs.declared.words.Word.{Word}
 use Rattle.word.specs.declared.faults.Fault.{Fault}
 use Rattle.word.proofs.Values.{value_of_value}
-use Rattle.card.specs.Cards.{CardModel, CardLaws, Entry, holds, faulty, Within, shown, read_answer, write_answer, write_state}
+use Rattle.card.specs.Cards.{CardModel, CardLaws, Entry, holds, faulty, Within, shown, read_answer, read_state, write_answer, write_state}
 use Rattle.layers.specs.CutFacts.{low_part, high_part, parts_whole, whole_below}
-use Rattle.card.proofs.CardFacts.{read_entered, write_granted, write_leads}
+use Rattle.card.proofs.CardFacts.{read_entered, read_leads, write_granted, write_leads}
 use Rattle.card.specs.WidthFacts.{place_from}
 use Rattle.layers.specs.Pairs.{Both, joined, unless_faulty, pair_card}
 
@@ -149,13 +149,22 @@ module _ (l h : CardModel) (lower : CardLaws l) (upper : CardLaws h) where
   }
 
   -- a read of both cards that gave two words is a read of the pair
-  pub both_read : (s : State) (p : ℕ) (low high : Word) → p < (pair_card l h).count s → Ok low ≡ read_answer l s.low p → Ok high ≡ read_answer h s.high p →
-      Ok (of_value ((value low + 2 ^ l.width s.low * value high) % 2 ^ 72)) ≡ read_answer (pair_card l h) s p
-  both_read s p low high k low_read high_read =
+  pub both_read : (s t : State) (p : ℕ) (low high : Word) → p < (pair_card l h).count s →
+      Ok low ≡ read_answer l s.low p → t.low ≡ read_state l s.low p →
+      Ok high ≡ read_answer h s.high p → t.high ≡ read_state h s.high p →
+      (Ok (of_value ((value low + 2 ^ l.width s.low * value high) % 2 ^ 72)) ≡ read_answer (pair_card l h) s p) ×
+      (t ≡ read_state (pair_card l h) s p)
+  both_read s t p low high k low_read low_after high_read high_after =
       let at = placed s p k in
-      joined_shown (l.width s.low) (h.width s.high) (l.entry s.low p) (h.entry s.high p) low high at.fitting
-      (lower.within s.low p at.in_low) (upper.within s.high p at.in_high) (sym (low_read ∙ read_entered l s.low p at.in_low)) (sym (high_read ∙ read_entered h s.high p at.in_high)) ∙
-      sym (read_entered (pair_card l h) s p k)
+      let low-is = sym (low_read ∙ read_entered l s.low p at.in_low) in
+      let high_is = sym (high_read ∙ read_entered h s.high p at.in_high) in
+      let whole = joined_shown (l.width s.low) (h.width s.high) (l.entry s.low p) (h.entry s.high p) low high at.fitting
+      (lower.within s.low p at.in_low) (upper.within s.high p at.in_high) low-is high_is in
+      let both = read_unless_faulty (l.entry s.low p) low (h.after_read s.high p) s.high low-is in
+      let low_led = low_after ∙ read_leads l s.low p at.in_low in
+      let high_led = high_after ∙ read_leads h s.high p at.in_high ∙ sym both in
+      let led : t ≡ (pair_card l h).after_read s p = λ i. record { low = low_led i; high = high_led i } in
+      (whole ∙ sym (read_entered (pair_card l h) s p k), led ∙ sym (read_leads (pair_card l h) s p k))
 
   -- a write of both parts to the two cards is the pair's write of a word that fits
   pub both_written : (s t : State) (p v a : ℕ) (parts : Word × Word) → p < (pair_card l h).count s → v < 2 ^ (pair_card l h).width s →

@@ -1,15 +1,15 @@
 -- A parity layer over a lawful card is a lawful card. Assumes nothing.
-use Rattle.std.specs.Prelude.{◌≡◌, ℕ, ◌*◌, ◌/◌, ◌%◌, ◌^◌, ◌<◌, ◌≤◌, Ok, refl}
+use Rattle.std.specs.Prelude.{◌≡◌, ℕ, ◌*◌, ◌/◌, ◌%◌, ◌^◌, ◌<◌, ◌≤◌, refl}
 use Rattle.std.proofs.Common.{sym, ap, subst, ◌∙◌, arith}
 use Rattle.std.proofs.lemmas.Bool.{cond_both, cond-true, eqb-true}
 use Rattle.word.specs.Lanes.{lane}
 use Rattle.word.specs.Words.{value, of_value}
 use Rattle.word.specs.declared.words.Word.{Word}
 use Rattle.word.proofs.Values.{value_of_value}
-use Rattle.card.specs.Cards.{CardModel, CardLaws, Entry, holds, faulty, Within, read_answer, write_answer, write_state}
+use Rattle.card.specs.Cards.{CardModel, CardLaws, Entry, holds, faulty, Within, write_answer, write_state}
 use Rattle.layers.specs.Parities.{Sensed, parity_card, parity_bits, lanes_right, with_parity, checked, by_nines, lanes_in}
 use Rattle.layers.specs.declared.parity.Sense.{Sense}
-use Rattle.card.proofs.CardFacts.{read_within, write_granted, write_leads}
+use Rattle.card.proofs.CardFacts.{write_granted, write_leads}
 use Rattle.layers.specs.CutFacts.{low_part, whole_low, whole_high}
 use Rattle.layers.specs.ParityFacts.{parities_right, raw_below}
 use Rattle.card.specs.WidthFacts.{place_from}
@@ -125,12 +125,6 @@ module _ (b : CardModel) (lower : CardLaws b) where
         alike_entry s _ q (alike_write s p v k fit)
         (lower.write_there s.card p q _ (placed s p k).below (placed s q m).below ne (raw_fits s p v k fit));
   }
-
-  -- a raw word that the card gave is one of nine cells for each lane
-  pub raw_given : (s : State) (p : ℕ) (raw : Word) → p < (parity_card b).count s → Ok raw ≡ read_answer b s.card p → value raw < 2 ^ (9 * lanes s)
-  raw_given s p raw k given =
-      let at = placed s p k in
-      rw (← at.nines) (read_within b s.card p at.below lower raw given)
 
   -- a write of the raw word to the card is the layer's write of data that fits
   pub raw_written : (s : State) (p v : ℕ) (raw : Word) → p < (parity_card b).count s → v < 2 ^ (parity_card b).width s →

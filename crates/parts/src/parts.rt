@@ -2,7 +2,7 @@
 ghost use Rattle.std.specs.Prelude.{◌≡◌};
 ghost use Rattle.word.specs.Words.{value};
 ghost use Rattle.card.specs.Cards.{read_answer, read_state, write_answer, write_state};
-ghost use Rattle.error_log.specs.Logs.{new_log, log_word};
+ghost use Rattle.error_log.specs.Logs.{new_log, log_word, LogKept};
 ghost use Rattle.parts.specs.Units.{unit_card};
 
 use crate::decoding::{lay, take};
@@ -56,7 +56,8 @@ pub fn write_over<C: Code, D: Card>(
 
 // The log word: kind, counter and syndrome of the latest error, then the partial and the check bits last taken.
 pub fn log_word<C: Code>(code: &C, log: &Log) -> u32
-    ensures { result ≡ log_word C.Code.code log.now }
+    ensures told { result ≡ log_word C.Code.code log.now }
+    ensures kept { LogKept log.now.counter log.now.kind }
 {
     let taken = log.taken().map_or(0, |raw| {
         code.partial(raw.data) as u32 * 0x100 + raw.check as u32

@@ -1,6 +1,6 @@
 // A unit over any code and any card.
 ghost use Rattle.std.specs.Prelude.{◌≡◌, ◌/◌, ◌^◌, ◌<◌, ◌≤◌};
-ghost use Rattle.error_log.specs.Logs.{new_log, log_word};
+ghost use Rattle.error_log.specs.Logs.{new_log, log_word, LogKept};
 ghost use Rattle.word.specs.Words.{value};
 ghost use Rattle.card.specs.Cards.{write_answer, write_state};
 ghost use Rattle.parts.specs.Merges.{joined};
@@ -113,7 +113,8 @@ impl<C: Code, D: Card> Unit<C, D> {
 impl<C: Code, D: Card> Unit<C, D> {
     // The log word: kind, counter and syndrome of the latest error, then the partial and the check bits last taken.
     pub fn log(&self) -> u32
-        ensures { result ≡ log_word C.Code.code (state_of D.Card.state self.now).log }
+        ensures told { result ≡ log_word C.Code.code (state_of D.Card.state self.now).log }
+        ensures kept { LogKept (state_of D.Card.state self.now).log.counter (state_of D.Card.state self.now).log.kind }
     {
         log_word(&self.code, &self.log)
     }

@@ -6,6 +6,7 @@ use crate::logs::Log;
 use crate::records::{FirstError, Kind, RawWord};
 
 impl Log {
+    // A log of which nothing was heard, as it is after a clear.
     pub fn new() -> Log
         ensures { result ≡ new_log }
     {
