@@ -64,7 +64,7 @@ fn tell_short_words(rt: &impl Print) -> io::Result<()> {
     println!(rt; "32-bit unit over a byte card of 30 bytes")?;
     let mut bytes = [0u8; 30];
     let mut unit = Unit::new(Code32, ByteCard::new(39, &mut bytes));
-    tell_table(rt, &mut unit, NARROW, &SHORT_WORDS)?;
+    tell_table(rt, &mut unit, NARROW, SHORT_WORDS)?;
     let mut bytes = [0u8; 30];
     let mut unit = Unit::new(Code32, ByteCard::new(39, &mut bytes));
     tell_draws(rt, &mut unit, NARROW, 32)
@@ -80,7 +80,7 @@ fn halves() -> Unit<Cascaded64, PairCard<ParityCard<BuiltinCard>, Unit<Code32, B
 // The table of a unit over a pair, and drawn calls on a new one.
 fn tell_halves(rt: &impl Print) -> io::Result<()> {
     println!(rt; "cascaded 64-bit unit over a pair: a parity layer below, a 32-bit unit above")?;
-    tell_table(rt, &mut halves(), WIDE, &HALVES)?;
+    tell_table(rt, &mut halves(), WIDE, HALVES)?;
     tell_draws(rt, &mut halves(), WIDE, 128)
 }
 

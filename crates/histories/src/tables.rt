@@ -95,7 +95,7 @@ pub const LONG_WORDS: [Call; 66] = [
 ];
 
 // For a 32-bit unit with three places: lanes from 4 on do not exist.
-pub const SHORT_WORDS: [Call; 24] = [
+pub const SHORT_WORDS: &[Call] = &[
     Call::Read(0),
     Call::Clear,
     Call::Write(
@@ -156,7 +156,7 @@ pub const SHORT_WORDS: [Call; 24] = [
 ];
 
 // For a cascaded unit over a pair with 128 places: cells below 40 lie in the low card, the others in the high one.
-pub const HALVES: [Call; 22] = [
+pub const HALVES: &[Call] = &[
     Call::Read(1),
     Call::Inject(1, 0),
     Call::Log,
