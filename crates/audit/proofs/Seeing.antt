@@ -1,23 +1,12 @@
 -- One more call, seen by a watch. Assumes nothing.
-use Rattle.std.proofs.Common.{◌≡◌, ℕ, zero, suc, ◌+◌, ◌<◌, ◌≤◌, Bool, true, false, cond, not, ◌&&◌, ltb, List, ◌∷◌, length, take, sym, refl, ap, ◌∙◌, ⊎_elim, add-one, arith}
-use Rattle.std.specs.List.{count_by}
+use Rattle.std.proofs.Common.{◌≡◌, ℕ, ◌<◌, ◌≤◌, Bool, true, false, cond, not, ◌&&◌, ltb, ◌∷◌, sym, ap, ◌∙◌, ⊎_elim, arith}
 use Rattle.std.proofs.lemmas.Bool.{cases_Bool, cond-true, cond-false}
-use Rattle.std.proofs.lemmas.List.Filters.{length-filter_more}
-use Rattle.std.proofs.lemmas.List.Sums.{length-filter}
 use Rattle.word.specs.Words.{value}
 use Rattle.runs.specs.Histories.{Made, History, granted, writes, stores, hits, upset, number_of, upset_cells, is_in_hand, laid_by, last_laid}
 use Rattle.runs.proofs.Masks.{number_same}
 use Rattle.runs.proofs.Pasts.{laid_kept, laid_new, upset_kept, upset_turned, upset_none}
 use Rattle.audit.specs.Watching.{marked, Sees, Told}
 use Rattle.audit.specs.declared.watching.Watch.{Watch}
-
--- the marked ones among the first c cells
-pub counted : (marks : List Bool) (c : ℕ) → c ≤ length marks → count_by (λ b. b) (take c marks) ≡ number_of (marked marks) c
-counted marks zero b = refl
-counted marks (suc c) b =
-    let p : Bool → Bool = λ m. m in
-    ap (λ n. count_by p (take n marks)) (sym (add-one c)) ∙ sym (length-filter p (take (c + 1) marks)) ∙ length-filter_more p marks c false (omega arith) ∙
-    ap (λ n. n + cond (marked marks c) 1 0) (length-filter p (take c marks) ∙ counted marks c (omega arith))
 
 -- what a call makes of a watch w, but for its being in hand
 pub record Stepped (cells lanes : ℕ) (d : Made) (w u : Watch) : Type 0 where

@@ -1,8 +1,8 @@
 -- A watcher's places and its log, one call after another. Assumes nothing.
-use Rattle.std.proofs.Common.{◌≡◌, ℕ, zero, suc, ◌+◌, ◌/◌, ◌<◌, min, cond, ltb, List, Some, None, Option, sym, refl, ap, ◌∙◌, subst, ⊎_elim, arith}
-use Rattle.std.proofs.lemmas.Bool.{cases_Bool, cases_lt, cond-true, cond-false, lt-ltb, le-ltb}
+use Rattle.std.proofs.Common.{◌≡◌, ℕ, zero, suc, ◌+◌, ◌/◌, ◌<◌, ◌≤◌, min, cond, ltb, List, length, set, Some, None, Option, sym, refl, ap, ◌∙◌, subst, ⊎_elim, arith, length-set}
+use Rattle.std.proofs.lemmas.List.{get_or-set_same, get_or-set_other}
+use Rattle.std.proofs.lemmas.Bool.{cases_Bool, cases_lt, cases_eq, cond-true, cond-false, lt-ltb, le-ltb}
 use Rattle.std.proofs.lemmas.Option.{same_Some}
-use Rattle.std.specs.Array.{IsElementAt}
 use Rattle.runs.specs.Histories.{Made, History, upset, number_of, upset_cells}
 use Rattle.runs.specs.Promises.{upset_met, met_errors}
 use Rattle.runs.proofs.Masks.{number_same}
@@ -12,6 +12,25 @@ use Rattle.audit.specs.Watchers.{nowhere, watch_of, Follows, SeesLog, SeesReadin
 use Rattle.audit.specs.declared.watching.Watch.{Watch}
 use Rattle.audit.specs.declared.watchers.Watcher.{Watcher}
 
+-- the first i of four watches have seen one more call, and the others are as they were
+pub record MovedTo (cells lanes : ℕ) (d : Made) (start : List Watch) (i : ℕ) (moved : List Watch) : Type 0 where
+  pub four_long : length moved ≡ 4
+  pub follow : (p : ℕ) → p < i → Follows cells lanes d (watch_of start p) (watch_of moved p)
+  pub rest : (p : ℕ) → i ≤ p → watch_of moved p ≡ watch_of start p
+
+pub moved_more : (cells lanes : ℕ) (d : Made) (start : List Watch) (i : ℕ) (moved : List Watch) (v : Watch) → i < 4 →
+    MovedTo cells lanes d start i moved → Follows cells lanes d (watch_of start i) v → MovedTo cells lanes d start (i + 1) (set moved i v)
+moved_more cells lanes d start i moved v b m f = record {
+  four_long = length-set moved i v ∙ m.four_long;
+  follow = λ p l.
+      ⊎_elim
+      (λ q. subst (λ k. Follows cells lanes d (watch_of start k) (watch_of (set moved i v) k)) (sym q)
+      (subst (λ (x : Watch). Follows cells lanes d (watch_of start i) x) (sym (get_or-set_same moved i v nowhere (subst (λ n. i < n) (sym m.four_long) b))) f))
+      (λ ne. subst (λ (x : Watch). Follows cells lanes d (watch_of start p) x) (sym (get_or-set_other moved i p v nowhere ne)) (m.follow p (omega arith)))
+      (cases_eq p i);
+  rest = λ p l. get_or-set_other moved i p v nowhere (λ q. omega arith) ∙ m.rest p (omega arith);
+}
+
 -- what holds of each number below four
 pub each_of_four : (P : ℕ → Type 0) → P 0 → P 1 → P 2 → P 3 → (p : ℕ) → p < 4 → P p
 each_of_four P a b c d zero l = a
@@ -19,12 +38,6 @@ each_of_four P a b c d (suc zero) l = b
 each_of_four P a b c d (suc (suc zero)) l = c
 each_of_four P a b c d (suc (suc (suc zero))) l = d
 each_of_four P a b c d (suc (suc (suc (suc p)))) l = absurd (omega arith)
-
--- a watch and what it becomes, by their place among the others
-pub follows_at : (cells lanes : ℕ) (d : Made) (before after : List Watch) (i : ℕ) (w v : Watch) → IsElementAt before i w → IsElementAt after i v →
-    Follows cells lanes d w v → Follows cells lanes d (watch_of before i) (watch_of after i)
-follows_at cells lanes d before after i w v b a f =
-    subst (λ (x : Watch). Follows cells lanes d x (watch_of after i)) (sym (b.1 nowhere)) (subst (λ (x : Watch). Follows cells lanes d w x) (sym (a.1 nowhere)) f)
 
 module _ (n k places : ℕ) (h : History) where
   -- where nothing is told of the log

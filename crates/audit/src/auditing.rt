@@ -7,6 +7,8 @@ ghost use Rattle.audit.specs.Watchers.{Watches, OwedAt, WatchedOwed};
 
 use crate::shapes::Shape;
 use crate::watchers::Watcher;
+use std::iter::Zip;
+use std::slice::Iter;
 use unit::{Answer, Call};
 
 // How many calls an audit went through, and how many of their answers are not as the promise says.
@@ -26,6 +28,14 @@ impl Watcher {
     }
 }
 
+// Each call with its answer, from the first on.
+fn paired<'a>(calls: &'a [Call], answers: &'a [Answer]) -> Zip<Iter<'a, Call>, Iter<'a, Answer>>
+    ensures calls { result.a.rest.now ≡ calls.now }
+    ensures answers { result.b.rest.now ≡ answers.now }
+{
+    calls.iter().zip(answers)
+}
+
 // Goes through calls on a new unit and their answers. A run that keeps the promise is never blamed, and one that is not blamed keeps it at the watched places.
 pub fn audit(shape: Shape, calls: &[Call], answers: &[Answer]) -> Findings
     ensures made { result.made ≡ min (length calls.now) (length answers.now) }
@@ -34,7 +44,7 @@ pub fn audit(shape: Shape, calls: &[Call], answers: &[Answer]) -> Findings
 {
     let mut watcher = Watcher::new(shape);
     let mut differing = 0;
-    for (call, answer) in calls.iter().zip(answers) {
+    for (call, answer) in paired(calls, answers) {
         if watcher.does_differ(*call, *answer) {
             differing += 1;
         }

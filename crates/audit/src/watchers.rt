@@ -53,7 +53,11 @@ fn count_met(errors_met: Option<u8>, shape: Shape, watch: Watch) -> Option<u8>
 fn move_watches(shape: Shape, watches: [Watch; 4], call: Call, answer: Answer) -> [Watch; 4]
     ensures { (p : ℕ) → p < 4 → Follows (cells_of shape) (lanes_of shape) (record { call = call; answer = answer }) (watch_of watches p) (watch_of result p) }
 {
-    watches.map(|watch| watch.after(shape, call, answer))
+    let mut moved = watches;
+    for watch in &mut moved {
+        *watch = watch.after(shape, call, answer);
+    }
+    moved
 }
 
 impl Watcher {

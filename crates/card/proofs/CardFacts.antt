@@ -27,6 +27,9 @@ module _ (m : CardModel) (s : m.State) (p : ℕ) (h : p < m.count s) where
     write_granted =
         cond-true (ltb p (m.count s)) _ _ (lt-ltb p (m.count s) h) ∙ cond-true (ltb v (2 ^ m.width s)) _ _ (lt-ltb v (2 ^ m.width s) k)
 
+    pub write_not_refused : (f : Fault) → Err f ≡ write_answer m s p v → ⊥
+    write_not_refused f e = let g = write_granted in let z : ◌≡◌ {A = ℕ} 0 1 = cc in omega arith
+
     pub write_leads : write_state m s p v ≡ m.after_write s p v
     write_leads =
         cond-true (ltb p (m.count s)) _ _ (lt-ltb p (m.count s) h) ∙ cond-true (ltb v (2 ^ m.width s)) _ _ (lt-ltb v (2 ^ m.width s) k)

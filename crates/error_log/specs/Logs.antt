@@ -28,6 +28,11 @@ pub record LogKept (counter : ℕ) (kind : Kind) : Type 0 where
   pub held : counter ≤ 15
   pub agree : (counter == 0) ≡ is_quiet kind
 
+-- what a log is to its holders: what it holds, which is kept so
+pub record KeptLog : Type 0 where
+  pub state : LogState
+  pub kept : LogKept state.counter state.kind
+
 -- a new log, and a cleared one
 abbrev pub new_log : LogState
 new_log = record { counter = 0; kind = Quiet; syndrome = 0; taken = None; first = None }

@@ -1,4 +1,6 @@
 // The log of a unit.
+ghost use Rattle.error_log.specs.Logs.{LogKept};
+
 use crate::records::{Kind, RawWord};
 use std::marker::Model;
 
@@ -17,14 +19,13 @@ pub struct Log {
     // the place of the first error, and the raw word that was taken there
     first: Option<u16>,
     first_raw: RawWord,
+    ghost kept: { LogKept counter kind },
 }
 
 impl Model for Log {
-    ghost use Rattle.error_log.specs.Logs.{LogState, LogKept, with_raw};
+    ghost use Rattle.error_log.specs.Logs.{KeptLog, with_raw};
 
-    ghost Value = { LogState };
+    ghost Value = { KeptLog };
 
-    ghost view = { λ l. record { counter = l.counter; kind = l.kind; syndrome = l.syndrome; taken = l.taken; first = with_raw l.first l.first_raw } };
-
-    ghost invariant = { λ l. LogKept l.counter l.kind };
+    ghost view = { λ l. record { state = record { counter = l.counter; kind = l.kind; syndrome = l.syndrome; taken = l.taken; first = with_raw l.first l.first_raw }; kept = l.kept } };
 }

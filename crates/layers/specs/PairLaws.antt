@@ -1,5 +1,5 @@
 -- Two lawful cards side by side are a lawful card. Assumes nothing.
-use Rattle.std.specs.Prelude.{◌≡◌, ℕ, ◌+◌, ◌*◌, ◌/◌, ◌%◌, ◌^◌, ◌<◌, ◌≤◌, min, Ok, Result, nat_le, refl}
+use Rattle.std.specs.Prelude.{◌≡◌, ℕ, ◌+◌, ◌*◌, ◌/◌, ◌%◌, ◌^◌, ◌<◌, ◌≤◌, min, Ok, Err, Result, ◌≢◌, nat_le, refl}
 use Rattle.std.proofs.Common.{sym, ap, ◌∙◌, mod-eq_of_lt, lt_of_lt_of_le, arith, pow_mono}
 use Rattle.std.proofs.lemmas.Bool.{cond_both, leb-true}
 use Rattle.word.specs.Words.{value, of_value}
@@ -8,7 +8,7 @@ use Rattle.word.specs.declared.faults.Fault.{Fault}
 use Rattle.word.proofs.Values.{value_of_value}
 use Rattle.card.specs.Cards.{CardModel, CardLaws, Entry, holds, faulty, Within, shown, read_answer, read_state, write_answer, write_state}
 use Rattle.layers.specs.CutFacts.{low_part, high_part, parts_whole, whole_below}
-use Rattle.card.proofs.CardFacts.{read_entered, read_leads, write_granted, write_leads}
+use Rattle.card.proofs.CardFacts.{read_entered, read_leads, write_granted, write_not_refused, write_leads}
 use Rattle.card.specs.WidthFacts.{place_from}
 use Rattle.layers.specs.Pairs.{Both, joined, unless_faulty, pair_card}
 
@@ -182,3 +182,11 @@ module _ (l h : CardModel) (lower : CardLaws l) (upper : CardLaws h) where
         ap (write_answer h s.high p) high ∙ write_granted h s.high p at.in_high _ fits ∙ sym (write_granted (pair_card l h) s p k v below),
         led ∙ sym (write_leads (pair_card l h) s p k v below),
       )
+
+  -- a write that the pair lets pass is not refused by its high card, which gets the high part
+  pub high_grants : (s : State) (p v a : ℕ) (parts : Word × Word) (f : Fault) → p < (pair_card l h).count s → v < 2 ^ (pair_card l h).width s →
+      a ≡ l.width s.low → parts ≡ (of_value (v % 2 ^ a), of_value (v / 2 ^ a)) → Err f ≢ write_answer h s.high p (value parts.1)
+  high_grants s p v a parts f k below w cut e =
+      let high : value parts.1 ≡ v / 2 ^ l.width s.low =
+      ap (λ r. value r.1) cut ∙ value_of_value (v / 2 ^ a) ∙ ap (λ n. v / 2 ^ n) w in
+      write_not_refused h s.high p (placed s p k).in_high (v / 2 ^ l.width s.low) (high_fits s p v k below) f (rw high at e)

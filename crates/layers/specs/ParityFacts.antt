@@ -1,9 +1,9 @@
 -- What is known of parity bits, for both senses and any number of lanes. Assumes nothing.
-use Rattle.std.specs.Prelude.{◌≡◌, ℕ, zero, suc, ◌+◌, ◌*◌, ◌/◌, ◌%◌, ◌^◌, ◌<◌, ◌≤◌, true, false, List, count_ones, slice_index, refl}
+use Rattle.std.specs.Prelude.{◌≡◌, ℕ, zero, suc, ◌+◌, ◌*◌, ◌/◌, ◌%◌, ◌^◌, ◌<◌, ◌≤◌, Bool, true, false, List, count_ones, slice_index, refl}
 use Rattle.std.proofs.Math.Nat.{mod-one}
 use Rattle.std.proofs.Common.{sym, ap, ◌∙◌, ⊎_elim, mul_comm, mod-eq_of_lt, pow-suc, lt_of_lt_of_le, arith, pow_mono}
 use Rattle.std.proofs.lemmas.Nat.{mod-pow-add, mod_low, shr_high, shl_whole, mul-le}
-use Rattle.std.proofs.lemmas.Bool.{eq-eqb, ne_eqb, eqb-true, eqb-false, and_parts, false_from_ne_true, cond-true, cond_both, and_from, cases_lt}
+use Rattle.std.proofs.lemmas.Bool.{eq-eqb, ne_eqb, eqb-true, eqb-false, and_parts, false_from_ne_true, cond-true, cond_both, and_from, and_left, and_right, cases_lt}
 use Rattle.word.specs.Words.{value, of_value}
 use Rattle.word.specs.Lanes.{lane, lane_list}
 use Rattle.word.specs.declared.words.Word.{Word}
@@ -78,6 +78,12 @@ module _ (s : Sense) where
     right_from zero h = refl
     right_from (suc m) h = and_from _ _ (right_from m (λ j k. h j (omega arith))) (h m (omega arith))
 
+    pub wrong_from : (m j : ℕ) → j < m → lane_right s (f j) (p / 2 ^ j % 2) ≡ false → lanes_right s m f p ≡ false
+    wrong_from zero j h e = absurd (omega arith)
+    wrong_from (suc m) j h e =
+        ⊎_elim (λ k. and_left _ _ (wrong_from m j k e))
+        (λ k. let i : j ≡ m = omega arith in and_right (lanes_right s m f p) _ (rw i at e)) (cases_lt j m)
+
   -- the bit with which a lane is right
   right_bit : (x b : ℕ) → b < 2 → lane_right s x b ≡ true → b ≡ parity_bit s x
   right_bit x b h t =
@@ -145,6 +151,17 @@ module _ (s : Sense) (m : ℕ) (k : m ≤ 8) where
   bits_byte v h = lt_of_lt_of_le (high_part (8 * m) m v (rw (nine m) h)) (pow_mono k)
 
   -- what is tested of the two parts of a raw word is what the raw word says
+  pub tested : (v : ℕ) (parts : Word × Word) (lanes : List ℕ) (b : Bool) → v < 2 ^ (9 * m) →
+      parts ≡ (of_value (v % 2 ^ (8 * m)), of_value (v / 2 ^ (8 * m))) → lanes ≡ lane_list parts.0.low →
+      b ≡ lanes_right s m (λ j. slice_index lanes j) parts.1.low → b ≡ lanes_right s m (λ j. lane j (v % 2 ^ (8 * m))) (v / 2 ^ (8 * m))
+  tested v parts lanes b h cut e f =
+      let bits : parts.1.low ≡ v / 2 ^ (8 * m) =
+      ap (λ r. r.1.low) cut ∙ mod-eq_of_lt (lt_of_lt_of_le (bits_byte v h) (omega arith)) in
+      f ∙ ap (lanes_right s m (λ j. slice_index lanes j)) bits ∙
+      lanes_right_same s m (λ j. slice_index lanes j) (λ j. lane j (v % 2 ^ (8 * m))) (v / 2 ^ (8 * m))
+      (λ j i. ap (λ x. slice_index x j) (e ∙ ap (λ r. lane_list r.0.low) cut) ∙ handed_out (v % 2 ^ (8 * m)) j (omega arith))
+
+  -- the bits of a raw word beside those that its lanes have
   module _ (v : ℕ) (parts : Word × Word) (lanes : List ℕ) (bits : ℕ) (h : v < 2 ^ (9 * m))
       (cut : parts ≡ (of_value (v % 2 ^ (8 * m)), of_value (v / 2 ^ (8 * m)))) (e : lanes ≡ lane_list parts.0.low)
       (f : bits ≡ parity_bits s m (λ j. slice_index lanes j)) where

@@ -1,15 +1,16 @@
 -- A parity layer over a lawful card is a lawful card. Assumes nothing.
-use Rattle.std.specs.Prelude.{◌≡◌, ℕ, ◌*◌, ◌/◌, ◌%◌, ◌^◌, ◌<◌, ◌≤◌, refl}
+use Rattle.std.specs.Prelude.{◌≡◌, ℕ, ◌*◌, ◌/◌, ◌%◌, ◌^◌, ◌<◌, ◌≤◌, Ok, Err, ◌≢◌, refl}
 use Rattle.std.proofs.Common.{sym, ap, subst, ◌∙◌, arith}
 use Rattle.std.proofs.lemmas.Bool.{cond_both, cond-true, eqb-true}
 use Rattle.word.specs.Lanes.{lane}
 use Rattle.word.specs.Words.{value, of_value}
 use Rattle.word.specs.declared.words.Word.{Word}
+use Rattle.word.specs.declared.faults.Fault.{Fault}
 use Rattle.word.proofs.Values.{value_of_value}
-use Rattle.card.specs.Cards.{CardModel, CardLaws, Entry, holds, faulty, Within, write_answer, write_state}
+use Rattle.card.specs.Cards.{CardModel, CardLaws, Entry, holds, faulty, Within, read_answer, write_answer, write_state}
 use Rattle.layers.specs.Parities.{Sensed, parity_card, parity_bits, lanes_right, with_parity, checked, by_nines, lanes_in}
 use Rattle.layers.specs.declared.parity.Sense.{Sense}
-use Rattle.card.proofs.CardFacts.{write_granted, write_leads}
+use Rattle.card.proofs.CardFacts.{read_within, write_granted, write_not_refused, write_leads}
 use Rattle.layers.specs.CutFacts.{low_part, whole_low, whole_high}
 use Rattle.layers.specs.ParityFacts.{parities_right, raw_below}
 use Rattle.card.specs.WidthFacts.{place_from}
@@ -140,3 +141,21 @@ module _ (b : CardModel) (lower : CardLaws b) where
         ap (write_answer b s.card p) laid ∙ write_granted b s.card p below _ fits ∙ sym (write_granted (parity_card b) s p k v fit),
         (λ i. record { sense = s.sense; card = card i }) ∙ sym (write_leads (parity_card b) s p k v fit),
       )
+
+  -- a raw word that the card gave is one of nine cells for each lane
+  pub raw_given : (s : State) (p w : ℕ) (raw : Word) → p < (parity_card b).count s → w ≡ b.width s.card → Ok raw ≡ read_answer b s.card p →
+      (lanes_in w ≤ 8) × (value raw < 2 ^ (9 * lanes_in w))
+  raw_given s p w raw k e given =
+      let at = placed s p k in
+      let most = at.most in
+      let nines = at.nines in
+      let whole : 9 * lanes_in w ≡ b.width s.card = omega arith in
+      (omega arith, rw whole (read_within b s.card p at.below lower raw given))
+
+  -- a write that the layer lets pass is not refused by the card
+  pub card_grants : (s : State) (p v w : ℕ) (raw : Word) (f : Fault) → p < (parity_card b).count s → v < 2 ^ (parity_card b).width s →
+      w ≡ b.width s.card → raw ≡ of_value (with_parity s.sense (lanes_in w) v) → Err f ≢ write_answer b s.card p (value raw)
+  card_grants s p v w raw f k fit e made refused =
+      let laid : value raw ≡ with_parity s.sense (lanes s) v =
+      ap value made ∙ value_of_value _ ∙ ap (λ n. with_parity s.sense (lanes_in n) v) e in
+      write_not_refused b s.card p (placed s p k).below (with_parity s.sense (lanes s) v) (raw_fits s p v k fit) f (rw laid at refused)

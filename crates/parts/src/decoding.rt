@@ -40,7 +40,7 @@ fn cut_raw<C: Code>(code: &C, raw: Word) -> RawWord
 pub(crate) fn take<C: Code>(code: &C, log: &mut Log, place: u16, raw: Word) -> Result<Word, Fault>
     requires { value raw < 2 ^ (C.Code.code.n + C.Code.code.k) }
     ensures answer { result ≡ shown (unit_entry C.Code.code place (holds (value raw))) }
-    ensures after { log.new ≡ logged C.Code.code place (holds (value raw)) log.old }
+    ensures after { log.new.state ≡ logged C.Code.code place (holds (value raw)) log.old.state }
 {
     let parts = cut_raw(code, raw);
     let syndrome = code.syndrome_of(parts.data, parts.check);

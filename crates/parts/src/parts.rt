@@ -29,9 +29,9 @@ pub fn read_over<C: Code, D: Card>(
     log: &mut Log,
     place: u16,
 ) -> Result<Word, Fault>
-    ensures answer { result ≡ read_answer (unit_card C.Code.code D.Card.model) (record { log = log.entry.now; card = D.Card.state card.old }) place }
-    ensures noted { log.exit.now ≡ (read_state (unit_card C.Code.code D.Card.model) (record { log = log.entry.now; card = D.Card.state card.old }) place).log }
-    ensures after { D.Card.state card.new ≡ (read_state (unit_card C.Code.code D.Card.model) (record { log = log.entry.now; card = D.Card.state card.old }) place).card }
+    ensures answer { result ≡ read_answer (unit_card C.Code.code D.Card.model) (record { log = log.entry.now.state; card = D.Card.state card.old }) place }
+    ensures noted { log.exit.now.state ≡ (read_state (unit_card C.Code.code D.Card.model) (record { log = log.entry.now.state; card = D.Card.state card.old }) place).log }
+    ensures after { D.Card.state card.new ≡ (read_state (unit_card C.Code.code D.Card.model) (record { log = log.entry.now.state; card = D.Card.state card.old }) place).card }
 {
     check_place(place, places(code, card))?;
     let raw = card.read(place).map_err(Fault::pass_up)?;
@@ -56,8 +56,8 @@ pub fn write_over<C: Code, D: Card>(
 
 // The log word: kind, counter and syndrome of the latest error, then the partial and the check bits last taken.
 pub fn log_word<C: Code>(code: &C, log: &Log) -> u32
-    ensures told { result ≡ log_word C.Code.code log.now }
-    ensures kept { LogKept log.now.counter log.now.kind }
+    ensures told { result ≡ log_word C.Code.code log.now.state }
+    ensures kept { LogKept log.now.state.counter log.now.state.kind }
 {
     let taken = log.taken().map_or(0, |raw| {
         code.partial(raw.data) as u32 * 0x100 + raw.check as u32

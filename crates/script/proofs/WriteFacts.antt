@@ -1,7 +1,10 @@
 -- Texts written one behind the other, and digit by digit. Assumes nothing.
-use Rattle.std.proofs.Common.{◌≡◌, ℕ, zero, suc, ◌-◌, ◌*◌, ◌/◌, ◌%◌, ◌^◌, ◌<◌, List, [], ◌∷◌, ◌++◌, length, get_or, take, drop, sym, refl, ap, ◌∙◌, subst, append_assoc, arith, length-append}
+use Rattle.std.proofs.Common.{◌≡◌, ℕ, zero, suc, ◌-◌, ◌*◌, ◌/◌, ◌%◌, ◌^◌, ◌<◌, ◌≤◌, List, [], ◌∷◌, ◌++◌, length, get_or, take, drop, Some, None, Ok, Err, sym, refl, ap, ◌∙◌, subst, append_assoc, arith, lit≤, length-append}
 use Rattle.std.proofs.lemmas.List.{drop-drop}
+use Rattle.unit.specs.Steps.{Answer}
+use Rattle.unit.specs.declared.calls.Reply.TheVariants.{Done, Gave, Merged, LogWord, FirstWas}
 use Rattle.lines.specs.Hex.{hex_digit, hex}
+use Rattle.lines.specs.Texts.{answer_text}
 use Rattle.script.specs.Written.{Wrote}
 use Rattle.script.specs.declared.printing.Page.{Page}
 
@@ -36,3 +39,13 @@ hex_from_digits (x ∷ xs) (suc k) v l each =
     let tail = hex_from_digits xs k v (omega arith)
     (λ i h. let next : suc k - 1 - suc i ≡ k - 1 - i = omega arith in each (suc i) (omega arith) ∙ ap (λ n. hex_digit (v / 2 ^ (4 * n) % 16)) next) in
     cc
+
+-- no answer's line is longer than 32 bytes
+pub text_short : (a : Answer) → length (answer_text a) ≤ 32
+text_short (Ok Done) = lit≤ tt
+text_short (Ok (Gave w)) = lit≤ tt
+text_short (Ok (Merged o)) = lit≤ tt
+text_short (Ok (LogWord v)) = lit≤ tt
+text_short (Ok (FirstWas None)) = lit≤ tt
+text_short (Ok (FirstWas (Some e))) = lit≤ tt
+text_short (Err f) = lit≤ tt

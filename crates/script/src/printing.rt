@@ -1,5 +1,5 @@
 // Answers as lines of text.
-ghost use Rattle.std.specs.Prelude.{◌≡◌, ℕ, ◌+◌, ◌-◌, ◌<◌, ◌≤◌, [], ◌∷◌, ◌++◌, length};
+ghost use Rattle.std.specs.Prelude.{◌≡◌, ℕ, ◌+◌, ◌-◌, ◌^◌, ◌<◌, ◌≤◌, [], ◌∷◌, ◌++◌, length};
 ghost use Rattle.lines.specs.Hex.{hex_digit, hex};
 ghost use Rattle.lines.specs.Texts.{field, fault_text, first_line, answer_text};
 
@@ -115,6 +115,19 @@ impl<'a> Page<'a> {
         self.put_field::<2>(u64::from(fault.depth));
         self.put_field::<4>(u64::from(fault.way));
         self.put(b"\n");
+    }
+
+    // Writes the line of an answer, at most 32 bytes, and answers how many lines are run with it.
+    #[tactic(auto, using(crate::proofs::WriteFacts::text_short))]
+    pub(crate) fn tell(&mut self, lines: usize, answer: Answer) -> usize
+        requires room { HasRoom self.old 32 }
+        requires few { lines + 1 < 2 ^ 64 }
+        ensures wrote { Wrote self.old (answer_text answer) self.new }
+        ensures counted { result ≡ lines + 1 }
+        ensures short { length (answer_text answer) ≤ 32 }
+    {
+        self.print(answer);
+        lines + 1
     }
 
     // Writes the line of an answer.

@@ -83,8 +83,7 @@ pub fn run<C: Code, D: Card>(unit: &mut Unit<C, D>, script: &[u8], out: &mut [u8
         }
         let (line, behind) = first_line(rest);
         let answer = answer_to(unit, asked(line));
-        page.print(answer);
-        lines += 1;
+        lines = page.tell(lines, answer);
         rest = behind;
     }
     Report {

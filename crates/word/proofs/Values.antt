@@ -15,6 +15,10 @@ word_is a b v h e =
     let t : b ≡ v / 2 ^ 64 = omega arith in
     cc
 
+-- 72 cells suffice for every word
+pub value_below : (a b : ℕ) → a < 2 ^ 64 → b < 2 ^ 8 → a + 2 ^ 64 * b < 2 ^ 72
+value_below a b h k = omega arith
+
 -- what is below 2 ^ 72 is below every wider power
 pub below_wider : (v w : ℕ) → v < 2 ^ 72 → 72 ≤ w → v < 2 ^ w
 below_wider v w h k = lt_of_lt_of_le h (pow_mono k)
@@ -68,6 +72,9 @@ fits_held v w h =
     ap (ltb v) (one_shl (min w 72) 128 (omega arith)) ∙
     ⊎_elim (λ e. ap (λ m. ltb v (2 ^ m)) e)
     (λ e. ap (λ m. ltb v (2 ^ m)) e.0 ∙ lt-ltb v (2 ^ 72) h ∙ sym (lt-ltb v (2 ^ w) (below_wider v w h e.1))) (held w)
+
+pub power_held : (w : ℕ) → 0 < 1 * 2 ^ min w 72 % 2 ^ 128
+power_held w = rw (one_shl (min w 72) 128 (omega arith)) (pow_pos (min w 72))
 
 pub mod_held : (v w : ℕ) → v < 2 ^ 72 → v % (1 * 2 ^ min w 72 % 2 ^ 128) ≡ v % 2 ^ w
 mod_held v w h =

@@ -42,6 +42,7 @@ impl TryFrom<u128> for Word {
 impl From<Word> for u128 {
     ghost from_gives = { λ word number. (number ≡ value word) × (number < 2 ^ 72) };
 
+    #[tactic(auto, using(crate::proofs::Values::value_below))]
     fn from(word: Word) -> u128 {
         word.low as u128 + word.top as u128 * 0x1_0000_0000_0000_0000
     }
@@ -51,6 +52,7 @@ impl Word {
     pub const ZERO: Word = Word { low: 0, top: 0 };
 
     // Whether the word is below 2^width.
+    #[tactic(auto, using(crate::proofs::Values::fits_held))]
     pub fn fits(self, width: u8) -> bool
         ensures { result ≡ nat_lt (value self) (2 ^ width) }
     {
@@ -77,6 +79,7 @@ impl Word {
     }
 
     // The cells below `at`, and those from `at` on moved down to cell 0.
+    #[tactic(auto, using(crate::proofs::Values::power_held, crate::proofs::Values::mod_held, crate::proofs::Values::div_held))]
     pub fn split(self, at: u8) -> (Word, Word)
         ensures { result ≡ (of_value (value self % 2 ^ at), of_value (value self / 2 ^ at)) }
     {
@@ -89,6 +92,7 @@ impl Word {
     }
 
     // `high` moved up to cell `at`, above `low`; what would pass cell 71 is dropped.
+    #[tactic(auto, using(crate::proofs::Values::join_held))]
     pub fn join(low: Word, high: Word, at: u8) -> Word
         ensures { result ≡ of_value ((value low + 2 ^ at * value high) % 2 ^ 72) }
     {

@@ -8,7 +8,7 @@ use crate::records::{FirstError, Kind, RawWord};
 impl Log {
     // A log of which nothing was heard, as it is after a clear.
     pub fn new() -> Log
-        ensures { result ≡ new_log }
+        ensures { result.state ≡ new_log }
     {
         Log {
             counter: 0,
@@ -22,7 +22,7 @@ impl Log {
 
     // Records a raw word that was taken at a place. A syndrome that is not 0 is an error.
     pub fn note(&mut self, place: u16, raw: RawWord, syndrome: u8, damaged: bool)
-        ensures { self.new ≡ noted place raw syndrome damaged self.old }
+        ensures { self.new.state ≡ noted place raw syndrome damaged self.old.state }
     {
         self.taken = Some(raw);
         if syndrome == 0 {
@@ -39,7 +39,7 @@ impl Log {
 
     // The raw word last taken.
     pub fn taken(&self) -> Option<RawWord>
-        ensures { result ≡ self.now.taken }
+        ensures { result ≡ self.now.state.taken }
     {
         let Log { taken, .. } = self;
         *taken
@@ -47,18 +47,21 @@ impl Log {
 
     // The first error.
     pub fn first(&self) -> Option<FirstError>
-        ensures { result ≡ self.now.first }
+        ensures { result ≡ self.now.state.first }
     {
-        self.first.map(|place| FirstError {
-            place,
-            raw: self.first_raw,
-        })
+        match self.first {
+            Some(place) => Some(FirstError {
+                place,
+                raw: self.first_raw,
+            }),
+            None => None,
+        }
     }
 
     // The upper half of the log word: kind, counter and syndrome of the latest error.
     pub fn errors(&self) -> u16
-        ensures told { result ≡ error_half self.now }
-        ensures kept { LogKept self.now.counter self.now.kind }
+        ensures told { result ≡ error_half self.now.state }
+        ensures kept { LogKept self.now.state.counter self.now.state.kind }
     {
         self.kind as u16 * 0x4000 + self.counter as u16 * 0x100 + self.syndrome as u16
     }

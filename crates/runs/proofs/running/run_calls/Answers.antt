@@ -1,7 +1,8 @@
-use Rattle.std.proofs.Common.{◌≡◌, ◌<◌, ◌≤◌, [], ◌++◌, length, take, drop, sym, ap, ◌∙◌, subst, arith}
+use Rattle.std.proofs.Common.{rules, ◌≡◌, ◌<◌, ◌≤◌, min, [], ◌++◌, length, get_or, take, drop, sym, ap, ◌∙◌, subst, arith}
 use Rattle.std.proofs.lemmas.List.{length-take-le, get_or-take}
 use Rattle.unit.specs.States.{state_of}
 use Rattle.unit.specs.Steps.{step}
+use Rattle.unit.specs.declared.calls.Call.TheVariants.{Read}
 use Rattle.runs.specs.Histories.{past}
 use Rattle.runs.specs.Runs.{new_unit, answers, final, Kept}
 use Rattle.runs.proofs.Keeping.{runs_keep}
@@ -13,17 +14,19 @@ loop-index-preserved g c =
     let code = g.C.Code.code in
     let card = g.D.Card.model in
     let l = c.loop-index in
+    let made = c.min-made.result in
     let s = state_of g.D.Card.state c.new-unit.result in
     let u = state_of g.D.Card.state l.unit in
     let calls = c.args.calls.now in
-    let few : length (take c.min-made.result calls) ≡ c.min-made.result = length-take-le c.min-made.result calls (omega (arith, c.min-made.ensures)) in
-    let soon : l.index < c.min-made.result = omega arith in
-    let called : l.index < length calls = omega (arith, c.min-made.ensures) in
-    let room : l.index < length c.args.answers.now = omega (arith, c.min-made.ensures) in
-    let made = c.make.ensures.answer ∙ ap (λ k. (step code card u k).answer) (get_or-take c.min-made.result calls l.index _ soon) in
-    let left = c.make.ensures.after ∙ ap (λ k. (step code card u k).state) (get_or-take c.min-made.result calls l.index _ soon) in (
-      answers_more code card s calls l.index _ called c.args.answers.now l.answers u c.make.result room l.invariant.1 l.invariant.0 made,
-      final_more code card s calls l.index _ called u (state_of g.D.Card.state c.make.new.self) l.invariant.1 left,
+    let few : made ≤ length calls = search rules in
+    let room : made ≤ length c.args.answers.now = search rules in
+    let long : length (take made calls) ≡ made = length-take-le made calls few in
+    let soon : l.index < made = omega arith in
+    let same : get_or (take made calls) l.index (Read 0) ≡ get_or calls l.index (Read 0) = get_or-take made calls l.index (Read 0) soon in
+    let told : c.make.result ≡ (step code card u (get_or calls l.index (Read 0))).answer = search rules in
+    let left : state_of g.D.Card.state c.make.new.self ≡ (step code card u (get_or calls l.index (Read 0))).state = search rules in (
+      answers_more code card s calls l.index (Read 0) (omega arith) c.args.answers.now l.answers u c.make.result (omega arith) l.invariant.1 l.invariant.0 told,
+      final_more code card s calls l.index (Read 0) (omega arith) u (state_of g.D.Card.state c.make.new.self) l.invariant.1 left,
     )
 
 pub returns : goal.returns
@@ -32,7 +35,8 @@ returns g c =
     let card = g.D.Card.model in
     let l = c.loop-index in
     let made = c.min-made.result in
-    let few : made ≤ length c.args.calls.now = omega (arith, c.min-made.ensures) in
+    let many : made ≡ min (length c.args.calls.now) (length c.args.answers.now) = search rules in
+    let few : made ≤ length c.args.calls.now = omega (arith, many) in
     let long = length-take-le made c.args.calls.now few in
     let all : l.index ≡ made = omega arith in
     let t = g.D.Card.state c.args.card in
@@ -44,7 +48,7 @@ returns g c =
     l.invariant.1 ∙ ap (λ n. final code card (state_of g.D.Card.state c.new-unit.result) (take n c.args.calls.now)) all ∙ ap (λ s. final code card s calls) c.new-unit.ensures in
     let front = answers_front code card (new_unit code card t) c.args.calls.now made c.args.answers.now l.answers few told in
     record {
-      made = c.min-made.ensures;
+      made = many;
       told = told;
       after = after;
       kept = subst (λ s. Kept code card (past [] calls (take made l.answers)) s) (sym after)

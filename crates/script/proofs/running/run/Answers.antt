@@ -8,16 +8,16 @@ use Rattle.script.proofs.running.run.Goals as goal
 pub loop-rest-preserved : goal.loop-rest-preserved
 loop-rest-preserved g c =
     let l = c.loop-rest in
-    let w = c.print.ensures in
+    let w = c.tell-lines.ensures.wrote in
     let room : 32 ≤ length l.page.out.now - l.page.written = omega (arith, c.room.ensures) in
     let some : 0 < length l.rest.now = search rules in
     record {
-      counted = omega (arith, c.first_line.ensures.shorter);
+      counted = omega (arith, c.first_line.ensures.shorter, c.tell-lines.ensures.counted);
       same = w.same ∙ l.invariant.same;
       long = w.long ∙ l.invariant.long;
       kept = rest_kept _ w l.invariant.kept;
-      so_far = run_again g.C.Code.code g.D.Card.model l.invariant.so_far (first_asks l.rest.now c.first_line.result.1.now c.first_line.result.0 c.asked.result c.first_line.ensures.cut c.asked.ensures) room
-          c.answer_to-answer.ensures.after (wrote_as (ap answer_text c.answer_to-answer.ensures.answer) w);
+      so_far = rw c.tell-lines.ensures.counted (run_again g.C.Code.code g.D.Card.model l.invariant.so_far (first_asks l.rest.now c.first_line.result.1.now c.first_line.result.0 c.asked.result c.first_line.ensures.cut c.asked.ensures) room
+          c.answer_to-answer.ensures.after (wrote_as (ap answer_text c.answer_to-answer.ensures.answer) w));
     }
 
 pub returns-clause-ran : goal.returns-clause-ran
