@@ -36,6 +36,7 @@ fn line_end(text: &[u8]) -> Option<usize>
 }
 
 // The first line of a text without the 0A that ends it, or nothing where none does, and what stands behind it.
+#[tactic(auto, using(crate::proofs::RunFacts::line_unfinished))]
 fn first_line(text: &[u8]) -> (Option<&[u8]>, &[u8])
     requires { 0 < length text.now }
     ensures cut { MatchOption result.0 (cut_lines text.now ≡ record { bytes = text.now; ended = false } ∷ cut_lines result.1.now) (λ line. cut_lines text.now ≡ record { bytes = line.now; ended = true } ∷ cut_lines result.1.now) }

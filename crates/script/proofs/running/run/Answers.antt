@@ -1,5 +1,6 @@
-use Rattle.std.proofs.Common.{◌≡◌, ◌-◌, ◌<◌, ◌≤◌, length, refl, ap, ◌∙◌, rules, arith}
+use Rattle.std.proofs.Common.{◌≡◌, ◌-◌, ◌<◌, ◌≤◌, None, MatchOption, length, refl, ap, ◌∙◌, rules, arith}
 use Rattle.lines.specs.Texts.{answer_text}
+use Rattle.lines.specs.Commands.{Parsed}
 use Rattle.script.proofs.GoingOn.{goes_on}
 use Rattle.script.proofs.WriteFacts.{wrote_as, rest_kept}
 use Rattle.script.proofs.RunFacts.{first_asks, run_done, run_stopped, run_again}
@@ -11,12 +12,13 @@ loop-rest-preserved g c =
     let w = c.tell-lines.ensures.wrote in
     let room : 32 ≤ length l.page.out.now - l.page.written = omega (arith, c.room.ensures) in
     let some : 0 < length l.rest.now = search rules in
+    let asks : MatchOption c.first_line.result.0 (c.asked.result ≡ None) (λ t. Parsed t.now c.asked.result) = search rules in
     record {
       counted = omega (arith, c.first_line.ensures.shorter, c.tell-lines.ensures.counted);
       same = w.same ∙ l.invariant.same;
       long = w.long ∙ l.invariant.long;
       kept = rest_kept _ w l.invariant.kept;
-      so_far = rw c.tell-lines.ensures.counted (run_again g.C.Code.code g.D.Card.model l.invariant.so_far (first_asks l.rest.now c.first_line.result.1.now c.first_line.result.0 c.asked.result c.first_line.ensures.cut c.asked.ensures) room
+      so_far = rw c.tell-lines.ensures.counted (run_again g.C.Code.code g.D.Card.model l.invariant.so_far (first_asks l.rest.now c.first_line.result.1.now c.first_line.result.0 c.asked.result c.first_line.ensures.cut asks) room
           c.answer_to-answer.ensures.after (wrote_as (ap answer_text c.answer_to-answer.ensures.answer) w));
     }
 
