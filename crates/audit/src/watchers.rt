@@ -64,6 +64,7 @@ impl Watcher {
     // A new unit, of which nothing was heard.
     pub fn new(shape: Shape) -> Watcher
         ensures shape { result.shape ≡ shape }
+        ensures log { result.errors_met ≡ Some 0 }
         ensures seen { (n k places : ℕ) → n + k ≤ 72 → SeesAll n k places [] result }
     {
         Watcher {

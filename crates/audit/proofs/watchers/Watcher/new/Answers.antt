@@ -1,5 +1,4 @@
-use Rattle.std.proofs.Common.{rules, ◌≡◌, ℕ, ◌+◌, ◌/◌, List, [], ◌∷◌, slice_index_or, sym, refl, ◌∙◌}
-use Rattle.std.proofs.lemmas.Option.{same_Some}
+use Rattle.std.proofs.Common.{rules, ◌≡◌, ℕ, ◌+◌, ◌/◌, List, [], ◌∷◌, slice_index_or, refl, ◌∙◌}
 use Rattle.audit.specs.Watching.{Sees}
 use Rattle.audit.specs.Watchers.{nowhere, watch_of}
 use Rattle.audit.proofs.Watchful.{each_of_four}
@@ -17,5 +16,5 @@ returns-clause-seen c n k places b =
           let made = c.map.ensures.items.at p 0 nowhere l in
           let s : Sees (n + k) (n / 8) [] (watch_of c.map.result p) = search rules in
           s;
-      log_seen = record { all = λ _ _. tt; counted = λ e q. sym (same_Some _ _ q) };
+      log_seen = record { all = λ _ _. tt; counted = λ e q. search rules };
     }
